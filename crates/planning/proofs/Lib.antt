@@ -1,0 +1,21 @@
+-- The theory of levels, wanted sets and best plans, over any rank; the laws of the coding; and the theorems about a task's best plan.
+pub mod Tests
+pub mod Runs
+pub mod Levels
+pub mod Greedy
+pub mod Walk
+pub mod Ranks
+pub mod Sim
+pub mod Widths
+pub mod Values
+pub mod Literals
+pub mod Facts
+pub mod Words
+pub mod Cubes
+pub mod Masks
+pub mod Moves
+pub mod Exhaustive
+pub mod Theorems
+pub mod Cases
+pub mod Guards
+pub mod Scan
