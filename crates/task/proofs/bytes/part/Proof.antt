@@ -1,0 +1,53 @@
+use borrow.Author.Needs.{needs}
+use native.Mathlib.Omega.{arith}
+use borrow.Author.Tests.{lt-ltb, le-ltb, le-leb, lt-leb, eq-eqb, ne-eqb}
+use native.Mathlib.Nat.{add-sub-cancel-left}
+use Rattle.task.proofs.Laws.{part-in, part-out}
+use Rattle.task.specs.Bytes.{part}
+use Rattle.task.proofs.bytes.part.Statement.{statement}
+use Rattle.task.proofs.bytes.part.Tie as tie
+
+slice-aggregate-result : tie.Need-slice-aggregate-result
+slice-aggregate-result c = search needs
+
+returns : tie.Need-returns
+returns c = part-out _ _ _ (omega arith)
+
+sub-if2 : tie.Need-sub-if2
+sub-if2 c = search needs
+
+slice-aggregate-result-2 : tie.Need-slice-aggregate-result-2
+slice-aggregate-result-2 c = search needs
+
+returns-2 : tie.Need-returns-2
+returns-2 c = part-out _ _ _ (omega arith)
+
+add-result : tie.Need-add-result
+add-result c = search needs
+
+sub-result : tie.Need-sub-result
+sub-result c = search needs
+
+part-result-start : tie.Need-part-result-start
+part-result-start c = search needs
+
+part-result-end : tie.Need-part-result-end
+part-result-end c = search needs
+
+returns-3 : tie.Need-returns-3
+returns-3 c = part-in _ _ _ (omega arith)
+
+pub part-spec : {M : Type 1} → statement M
+part-spec =
+    tie.close
+    (tie.spec
+    slice-aggregate-result
+    returns
+    sub-if2
+    slice-aggregate-result-2
+    returns-2
+    add-result
+    sub-result
+    part-result-start
+    part-result-end
+    returns-3)

@@ -1,0 +1,52 @@
+-- The stand cases of the file check and the walk, by computation on the bytes of their files.
+use Prim.Native.Nat.{ℕ}
+use mathlib.Core.Path.{_≡_, refl}
+use mathlib.Core.List.{List, [], _∷_, _++_}
+use Rattle.planning.specs.Tests.{_and_, _or_, pick}
+use Rattle.planning.specs.Scan.{firstBad, every, tab}
+use Rattle.planning.specs.Model.{Task, valueOf, holds, apply, utility, operatorAt}
+use Rattle.planning.specs.Coding.{wide, width, bits}
+use Rattle.planning.specs.Cases.{fact, P, Q}
+use Rattle.task.specs.Bytes.{byte, le16, le32, part}
+use Rattle.task.specs.Format.{variableRecord, operatorRecord, termRecord, effects}
+use Rattle.task.specs.Decode.{facts, sizes, taskOf}
+use Rattle.task.specs.Check.{letterRight, lettersRight, lengthRight, countsRight, sectionInside, apart, allInside, allApart, headerFault, namesVariable, hasValue, rises, usedRight, unusedRight, factRight, factsRight, variableRight, costRight, factCountsRight, preconditionsRight, effectsRight, operatorRecordRight, operatorRight, termCountsRight, termFactsRight, termRecordRight, termRight, checkOf, accepted}
+use Rattle.walk.specs.Walk.{refused, reached, walkFrom, walkOf}
+use Rattle.walk.specs.Cases.{header, operator, fileP, fileQ, fileOf}
+
+-- the files hold the tasks
+pub tasks :
+    _≡_ {A = List Task}
+    (taskOf (fileP 0) ∷ taskOf (fileP 1) ∷ taskOf (fileP 2) ∷ taskOf (fileQ 3) ∷ taskOf (fileQ 4) ∷ taskOf (fileQ 5) ∷ [])
+    (P 0 ∷ P 1 ∷ P 2 ∷ Q 3 ∷ Q 4 ∷ Q 5 ∷ [])
+unfolding pick tab byte le16 le32 part variableRecord operatorRecord termRecord effects facts sizes taskOf fact P Q
+tasks = refl
+
+-- the file check: P and Q; 16 and 17 values; cost 0; 48 and 49 bits; no bytes
+pub checks :
+    _≡_ {A = List (ℕ × ℕ)}
+    (checkOf (fileP 1)
+    ∷ checkOf (fileQ 5)
+    ∷ checkOf (fileOf 1 (16 ∷ 15 ∷ []) 30)
+    ∷ checkOf (fileOf 1 (17 ∷ 0 ∷ []) 30)
+    ∷ checkOf (header 1 1 0 0 30 66 66 ++ (2 ∷ 0 ∷ []) ++ operator 0 0 0 [] [])
+    ∷ checkOf (fileOf 12 (16 ∷ 0 ∷ 16 ∷ 0 ∷ 16 ∷ 0 ∷ 16 ∷ 0 ∷ 16 ∷ 0 ∷ 16 ∷ 0 ∷ 16 ∷ 0 ∷ 16 ∷ 0 ∷ 16 ∷ 0 ∷ 16 ∷ 0 ∷ 16 ∷ 0 ∷ 16 ∷ 0 ∷ []) 52)
+    ∷ checkOf (fileOf 13 (16 ∷ 0 ∷ 16 ∷ 0 ∷ 16 ∷ 0 ∷ 16 ∷ 0 ∷ 16 ∷ 0 ∷ 16 ∷ 0 ∷ 16 ∷ 0 ∷ 16 ∷ 0 ∷ 16 ∷ 0 ∷ 16 ∷ 0 ∷ 16 ∷ 0 ∷ 16 ∷ 0 ∷ 2 ∷ 0 ∷ []) 54)
+    ∷ checkOf []
+    ∷ [])
+    ((0, 0) ∷ (0, 0) ∷ (0, 0) ∷ (7, 0) ∷ (9, 0) ∷ (0, 0) ∷ (8, 0) ∷ (1, 0) ∷ [])
+unfolding _and_ _or_ pick firstBad every tab wide width bits byte le16 le32 part variableRecord operatorRecord termRecord effects sizes letterRight lettersRight lengthRight countsRight sectionInside apart allInside allApart headerFault namesVariable hasValue rises usedRight unusedRight factRight factsRight variableRight costRight factCountsRight preconditionsRight effectsRight operatorRecordRight operatorRight termCountsRight termFactsRight termRecordRight termRight checkOf
+checks = refl
+
+-- the walk over P: 1, 2 with b = 2; 1, 2 with b = 1; 1, 1; 3; and Q with b = 5: 1, 2
+pub walks :
+    walkOf (fileP 2) (1 ∷ 0 ∷ 2 ∷ 0 ∷ [])
+    ∷ walkOf (fileP 1) (1 ∷ 0 ∷ 2 ∷ 0 ∷ [])
+    ∷ walkOf (fileP 2) (1 ∷ 0 ∷ 1 ∷ 0 ∷ [])
+    ∷ walkOf (fileP 2) (3 ∷ 0 ∷ [])
+    ∷ walkOf (fileP 2) (3 ∷ [])
+    ∷ walkOf (fileQ 5) (1 ∷ 0 ∷ 2 ∷ 0 ∷ [])
+    ∷ []
+    ≡ reached 2 3 ∷ refused 19 1 ∷ refused 18 1 ∷ refused 17 0 ∷ refused 16 0 ∷ reached 4 7 ∷ []
+unfolding _and_ _or_ pick firstBad every tab wide width bits byte le16 le32 part variableRecord operatorRecord termRecord effects sizes letterRight lettersRight lengthRight countsRight sectionInside apart allInside allApart headerFault namesVariable hasValue rises usedRight unusedRight factRight factsRight variableRight costRight factCountsRight preconditionsRight effectsRight operatorRecordRight operatorRight termCountsRight termFactsRight termRecordRight termRight checkOf accepted facts taskOf valueOf holds apply utility operatorAt walkFrom walkOf
+walks = refl

@@ -1,0 +1,4 @@
+pub mod Walk
+pub mod Answers
+pub mod Meaning
+pub mod Cases
