@@ -1,0 +1,19 @@
+-- Laws that belong to no one function.
+pub mod Trees
+pub mod Spread
+pub mod Entries
+pub mod Chains
+pub mod Making
+pub mod Steps
+pub mod Counting
+pub mod Empty
+pub mod Applies
+pub mod Canonical
+pub mod Ending
+pub mod Memos
+pub mod Binary
+pub mod Forgets
+pub mod Meets
+pub mod Diagrams
+pub mod Walks
+pub mod Sequence
