@@ -1,0 +1,27 @@
+-- What the question's answer is to say of a task, and of which lists it says so.
+use Prim.Native.Nat.{ℕ, _≤_, _<_}
+use mathlib.Core.Path.{_≡_}
+use mathlib.Core.Bool.{true, false}
+use mathlib.Core.List.{List}
+use lib.ListN.{length, getD}
+use Rattle.planning.specs.Model.{Task}
+use Rattle.planning.specs.Coding.{bits}
+use Rattle.planning.specs.Best.{Cheapest}
+use Rattle.lent.specs.Lists.{levelsShort, listsWrong, listed}
+use Rattle.diagrams.specs.Tree.{named, trees}
+use Rattle.symbolic.specs.Bits.{bitTask}
+use Rattle.symbolic.specs.Levels.{level}
+use Rattle.question.specs.Question.{Reply, refused, least, notReached}
+
+-- the lists pass 11, 12 and 21, and name the levels of the task: so a successful search leaves them
+pub record NamesLevels (t : Task) (levels bit low high : List ℕ) (count : ℕ) : Type 0 where
+  pub long : levelsShort (length levels) (t .bound) ≡ false
+  pub right : listsWrong (length bit) (length low) (length high) ≡ false
+  pub passes : listed (bits (t .sizes)) (t .bound) levels bit low high count ≡ true
+  pub names : (g : ℕ) → g ≤ t .bound → named (trees bit low high count) (getD levels g 0) ≡ level (bitTask t) g
+
+-- the answer is the cost of the cheapest applicable sequence to the state s if that is at most the bound, else "not reached"
+abbrev pub Tells : Task → List ℕ → Reply → Type 0
+Tells t s (refused number value) = ⊥
+Tells t s (least g) = Cheapest t s g × (g ≤ t .bound)
+Tells t s notReached = (g : ℕ) → Cheapest t s g → t .bound < g

@@ -1,0 +1,55 @@
+-- The question about one state: the least cost at which it is reached, by lists that an earlier search left and that nobody vouches for.
+use Prim.Native.Nat.{ℕ, zero, suc, _+_}
+use mathlib.Core.Bool.{Bool}
+use mathlib.Core.List.{List}
+use lib.Dec.{eqb, ltb}
+use lib.ListN.{length, getD}
+use Rattle.planning.specs.Tests.{_and_, pick}
+use Rattle.planning.specs.Scan.{every}
+use Rattle.planning.specs.Coding.{bits, code}
+use Rattle.lent.specs.Lists.{levelsShort, listsWrong, listed}
+use Rattle.diagrams.specs.Tree.{Tree, named, trees, member}
+use Rattle.task.specs.Format.{bound}
+use Rattle.task.specs.Decode.{sizes}
+use Rattle.task.specs.Check.{checkOf, accepted}
+
+-- refused, with a number and a value; the least cost whose set holds the state; or not reached
+pub data Reply : Type 0 where
+  refused : ℕ → ℕ → Reply
+  least : ℕ → Reply
+  notReached : Reply
+
+-- ---- 20, of a state of a task whose variables have these numbers of values
+-- the value of variable v is in its range
+unfoldable pub valueRight : List ℕ → List ℕ → ℕ → Bool
+valueRight ds state v = ltb (getD state v 0) (getD ds v 0)
+
+-- there is a value for each variable, and each is in its range
+unfoldable pub stateRight : List ℕ → List ℕ → Bool
+stateRight ds state = eqb (length state) (length ds) and every (valueRight ds state) (length ds) 0
+
+-- ---- the answer
+-- the set that the name of level g stands for holds the state with the bits σ
+unfoldable pub inLevel : List ℕ → List Tree → List Bool → ℕ → Bool
+inLevel levels entries σ g = member (named entries (getD levels g 0)) σ
+
+-- the least of the n costs from g whose set holds the state
+unfoldable pub leastFrom : (ℕ → Bool) → ℕ → ℕ → Reply
+leastFrom holds zero g = notReached
+leastFrom holds (suc n) g = pick (holds g) (least g) (leastFrom holds n (suc g))
+
+-- 11, 12, 20, 21 and the answer, for a task whose variables have these numbers of values, with the bound b
+unfoldable pub askOf : List ℕ → ℕ → List ℕ → List ℕ → List ℕ → List ℕ → List ℕ → ℕ → Reply
+askOf ds b state levels bit low high count =
+    pick (levelsShort (length levels) b) (refused 11 0)
+    (pick (listsWrong (length bit) (length low) (length high)) (refused 12 0)
+    (pick (stateRight ds state)
+    (pick (listed (bits ds) b levels bit low high count)
+    (leastFrom (inLevel levels (trees bit low high count) (code ds state)) (b + 1) 0)
+    (refused 21 0))
+    (refused 20 0)))
+
+-- the file check first
+unfoldable pub questionOf : List ℕ → List ℕ → List ℕ → List ℕ → List ℕ → List ℕ → ℕ → Reply
+questionOf file state levels bit low high count =
+    pick (accepted file) (askOf (sizes file) (bound file) state levels bit low high count) (refused (checkOf file .0) (checkOf file .1))
