@@ -1,0 +1,7 @@
+-- Laws that belong to no one function.
+pub mod Cases
+pub mod Shapes
+pub mod Adds
+pub mod Withins
+pub mod Worth
+pub mod Pairs

@@ -1,0 +1,5 @@
+pub mod Values
+pub mod Adding
+pub mod Within
+pub mod Stages
+pub mod Reading
