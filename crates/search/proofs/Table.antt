@@ -1,0 +1,68 @@
+-- The starred stand cases of the search: figures, and the refusals 14 and 15 at lists one too short. Assumes nothing.
+use Prim.Native.Nat.{ℕ, zero, suc}
+use mathlib.Core.Path.{_≡_, refl}
+use mathlib.Core.List.{List, [], _∷_}
+use lib.ListN.{length, replicate}
+use lib.Dec.{ltb}
+use Rattle.planning.specs.Tests.{pick}
+use Rattle.planning.specs.Model.{ceiling}
+use Rattle.planning.specs.Cases.{fact, P, Q}
+use Rattle.symbolic.proofs.Table.{Row, P-0, P-1, P-2, Q-3, Q-4, Q-5}
+use Rattle.utility.proofs.Cases.{entries-P, entries-Q}
+use Rattle.search.specs.declared.answer.Listing.{Listing}
+use Rattle.search.specs.Search.{Lent, lent, Answer, refused, found, listingOf, setsOf, madeOf}
+
+-- lists of n node entries, six utility entries and p steps
+abbrev lists : ℕ → ℕ → Lent
+lists n p = lent [] (replicate n 0) (replicate n 0) (replicate n 0) (replicate 6 0) (replicate 6 0) (replicate 6 0) (replicate p 0)
+
+abbrev figures : ℕ → ℕ → ℕ → ℕ → ℕ → ℕ → ℕ → Answer
+figures u c g b n e k = found (record { utility = u; ceiling = c; cost = g; bound = b; nodes = n; entries = e; steps = k })
+
+ceiling-P : (b : ℕ) → ceiling (P b .terms) ≡ 3
+unfolding P fact ceiling
+ceiling-P b = refl
+
+bound-P : (b : ℕ) → P b .bound ≡ b
+unfolding P
+bound-P b = refl
+
+ceiling-Q : (b : ℕ) → ceiling (Q b .terms) ≡ 7
+unfolding Q fact ceiling
+ceiling-Q b = refl
+
+bound-Q : (b : ℕ) → Q b .bound ≡ b
+unfolding Q
+bound-Q b = refl
+
+pub P-with-0 : madeOf (P 0) (lists 2 0) ≡ figures 0 3 0 0 2 6 0
+unfolding madeOf setsOf listingOf pick
+P-with-0 = rw (entries-P 0, P-0 .nodes-are, P-0 .plan-is, P-0 .utility-is, P-0 .cost-is, ceiling-P 0, bound-P 0)
+
+pub P-with-1 : madeOf (P 1) (lists 8 1) ≡ figures 2 3 1 1 8 6 1
+unfolding madeOf setsOf listingOf pick
+P-with-1 = rw (entries-P 1, P-1 .nodes-are, P-1 .plan-is, P-1 .utility-is, P-1 .cost-is, ceiling-P 1, bound-P 1)
+
+pub P-with-2 : madeOf (P 2) (lists 10 2) ≡ figures 3 3 2 2 10 6 2
+unfolding madeOf setsOf listingOf pick
+P-with-2 = rw (entries-P 2, P-2 .nodes-are, P-2 .plan-is, P-2 .utility-is, P-2 .cost-is, ceiling-P 2, bound-P 2)
+
+pub P-nodes-7 : madeOf (P 1) (lists 7 1) ≡ refused 14 0
+unfolding madeOf setsOf pick
+P-nodes-7 = rw (entries-P 1, P-1 .nodes-are)
+
+pub P-plan-0 : madeOf (P 1) (lists 8 0) ≡ refused 15 0
+unfolding madeOf setsOf pick
+P-plan-0 = rw (entries-P 1, P-1 .nodes-are, P-1 .plan-is)
+
+pub Q-with-5 : madeOf (Q 5) (lists 8 2) ≡ figures 7 7 4 5 8 4 2
+unfolding madeOf setsOf listingOf pick
+Q-with-5 = rw (entries-Q 5, Q-5 .nodes-are, Q-5 .plan-is, Q-5 .utility-is, Q-5 .cost-is, ceiling-Q 5, bound-Q 5)
+
+pub Q-with-4 : madeOf (Q 4) (lists 8 2) ≡ figures 7 7 4 4 8 4 2
+unfolding madeOf setsOf listingOf pick
+Q-with-4 = rw (entries-Q 4, Q-4 .nodes-are, Q-4 .plan-is, Q-4 .utility-is, Q-4 .cost-is, ceiling-Q 4, bound-Q 4)
+
+pub Q-with-3 : madeOf (Q 3) (lists 5 0) ≡ figures 0 7 0 3 5 4 0
+unfolding madeOf setsOf listingOf pick
+Q-with-3 = rw (entries-Q 3, Q-3 .nodes-are, Q-3 .plan-is, Q-3 .utility-is, Q-3 .cost-is, ceiling-Q 3, bound-Q 3)
