@@ -1,0 +1,142 @@
+// osp-list: reads a task file from standard input, searches for its best plan in lists of fixed lengths, and prints the listing or the
+// refusal.
+use search::answer::Listing;
+use search::answer::Searched;
+use search::search::search;
+use task::records::cost;
+use task::records::operator_record;
+ghost use Prim.Native.Nat.{_<_};
+
+// One byte more than a task file may have, so that a longer input is refused for its length.
+const MOST_BYTES: usize = 16385;
+
+// The lengths of the lent lists: names of levels, node entries, utility entries, memo and plan.
+const LEVELS: usize = 4096;
+
+const NODES: usize = 1024;
+
+const UTILITIES: usize = 512;
+
+const MEMO: usize = 8192;
+
+const STEPS: usize = 4096;
+
+// A line of a word and two numbers.
+fn print_pair(word: &[u8], a: u64, between: &[u8], b: u64) {
+    io::write_all(1, word);
+    io::print_decimal(1, a);
+    io::write_all(1, between);
+    io::print_decimal(1, b);
+    io::write_all(1, b"\n");
+}
+
+// A step's line: its number, operator, cost, and cost so far.
+fn print_step(step: usize, operator: u16, cost: usize, so_far: usize) {
+    io::print_decimal(1, step as u64);
+    io::write_all(1, b" ");
+    io::print_decimal(1, operator as u64);
+    print_pair(b" ", cost as u64, b" ", so_far as u64);
+}
+
+// The cost of an operator of the file.
+fn operator_cost(file: &[u8], operator: u16) -> usize
+    ensures { λ r. ⌜ r < 65536 ⌝ }
+{
+    cost(operator_record(file, operator as usize))
+}
+
+// The lines of the first n steps of the plan.
+fn print_steps(file: &[u8], plan: &[u16], n: usize) {
+    let mut so_far = 0;
+    let mut k = 0;
+    while k < STEPS {
+        if n <= k {
+            return;
+        }
+        if plan.len() <= k {
+            return;
+        }
+        let operator = plan[k];
+        let cost = operator_cost(file, operator);
+        so_far += cost;
+        print_step(k, operator, cost, so_far);
+        k += 1;
+    }
+}
+
+// The listing's figures.
+fn print_figures(found: Listing) {
+    print_pair(
+        b"utility ",
+        found.utility as u64,
+        b" of ",
+        found.ceiling as u64,
+    );
+    print_pair(b"cost ", found.cost as u64, b" of ", found.bound as u64);
+    print_pair(b"nodes ", found.nodes as u64, b" ", found.entries as u64);
+    io::write_all(1, b"steps ");
+    io::print_decimal(1, found.steps as u64);
+    io::write_all(1, b"\n");
+}
+
+// The listing, or the refusal with its two numbers.
+fn print_answer(file: &[u8], plan: &[u16], answer: Searched) {
+    match answer {
+        Searched::Refused { number, place } => {
+            print_pair(b"refused ", number as u64, b" ", place as u64);
+        }
+        Searched::Found(found) => {
+            let steps = found.steps;
+            print_figures(found);
+            print_steps(file, plan, steps);
+        }
+    }
+}
+
+// Searches in lists of its own, and prints the answer.
+fn run(file: &[u8]) {
+    let mut levels = [0u32; LEVELS];
+    let mut bit = [0u32; NODES];
+    let mut low = [0u32; NODES];
+    let mut high = [0u32; NODES];
+    let mut ubit = [0u32; UTILITIES];
+    let mut ulow = [0u32; UTILITIES];
+    let mut uhigh = [0u32; UTILITIES];
+    let mut heads = [0u32; NODES];
+    let mut chain = [0u32; NODES];
+    let mut memo = [0u32; MEMO];
+    let mut plan = [0u16; STEPS];
+    let answer = search(
+        file,
+        &mut levels,
+        &mut bit,
+        &mut low,
+        &mut high,
+        &mut ubit,
+        &mut ulow,
+        &mut uhigh,
+        &mut heads,
+        &mut chain,
+        &mut memo,
+        &mut plan,
+    );
+    print_answer(file, &plan, answer);
+}
+
+// Whether standard input has ended: a read that failed, or that finds more, says that it has not.
+fn ended() -> bool {
+    let mut one = [0u8; 1];
+    libc::read(0, &mut one) == 0
+}
+
+fn main() {
+    let mut buffer = [0u8; MOST_BYTES];
+    let n = io::read_full(0, &mut buffer);
+    if n < MOST_BYTES {
+        if !ended() {
+            io::write_all(2, b"osp-list: standard input cannot be read\n");
+            return;
+        }
+    }
+    run(&buffer[..n]);
+}

@@ -1,0 +1,64 @@
+// Writes the answers, one to a line behind the case's name.
+use task::check::Checked;
+use task::check::check;
+use walk::Fault;
+use walk::Walked;
+use walk::walk;
+
+// A refusal's number and value.
+fn refused(number: u64, value: u64) {
+    io::write_all(1, b"refused ");
+    io::print_decimal(1, number);
+    io::write_all(1, b" ");
+    io::print_decimal(1, value);
+    io::write_all(1, b"\n");
+}
+
+// The file check's answer.
+pub fn checked(name: &[u8], file: &[u8]) {
+    io::write_all(1, name);
+    io::write_all(1, b": ");
+    match check(file) {
+        Checked::Accepted => {
+            io::write_all(1, b"accepted\n");
+        }
+        Checked::Refused { number, place } => refused(number as u64, place as u64),
+    }
+}
+
+// The file check's answer to the first n of the bytes.
+pub fn checked_first(name: &[u8], bytes: &[u8], n: usize) {
+    if n <= bytes.len() {
+        checked(name, &bytes[..n]);
+    }
+}
+
+// The number of a step's fault.
+fn number(fault: Fault) -> u64 {
+    match fault {
+        Fault::Operator => 17,
+        Fault::Precondition => 18,
+        Fault::Bound => 19,
+    }
+}
+
+// The walk's answer.
+pub fn walked(name: &[u8], file: &[u8], plan: &[u8]) {
+    io::write_all(1, name);
+    io::write_all(1, b": ");
+    match walk(file, plan) {
+        Walked::Unread { number, place } => refused(number as u64, place as u64),
+        Walked::Odd => refused(16, 0),
+        Walked::Stopped(stop) => {
+            let fault = stop.fault;
+            refused(number(fault), stop.step as u64);
+        }
+        Walked::Reached { cost, utility } => {
+            io::write_all(1, b"cost ");
+            io::print_decimal(1, cost as u64);
+            io::write_all(1, b" utility ");
+            io::print_decimal(1, utility as u64);
+            io::write_all(1, b"\n");
+        }
+    }
+}

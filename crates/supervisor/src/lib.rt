@@ -1,0 +1,173 @@
+// The file check, the walk, the search and the question for callers in C; include/laurelsnap.h describes them there.
+use question::Answered;
+use question::question;
+use search::answer::Searched;
+use search::search::search;
+use task::check::Checked;
+use task::check::check;
+use walk::Fault;
+use walk::Walked;
+use walk::walk;
+ghost use mathlib.Core.Path.{_≡_};
+ghost use Rattle.task.specs.Check.{checkOf};
+ghost use Rattle.walk.specs.Walk.{walkOf, refused};
+ghost use Rattle.walk.specs.Answers.{faultNumber};
+ghost use Rattle.supervisor.specs.Reports.{reported, checkReport, walkReport, questionReport, Reports};
+ghost use Rattle.question.specs.Question.{questionOf};
+ghost use Rattle.search.specs.Search.{lent};
+
+// An answer as C gets it: document 01's number, and two values.
+#[repr(C)]
+pub struct Report {
+    pub number: u64,
+    pub first: u64,
+    pub second: u64,
+}
+
+// A refusal with its number and value; the number 0 says that a file passes the check.
+fn refusal(number: u64, value: u64) -> Report
+    ensures { λ r. ⌜ reported r ≡ walkReport (refused number value) ⌝ }
+{
+    Report {
+        number,
+        first: value,
+        second: 0,
+    }
+}
+
+// The number of a step's fault.
+fn fault_number(fault: Fault) -> u64
+    ensures { λ r. ⌜ r ≡ faultNumber fault ⌝ }
+{
+    match fault {
+        Fault::Operator => 17,
+        Fault::Precondition => 18,
+        Fault::Bound => 19,
+    }
+}
+
+// The file check: 0, or the refusal's number and value.
+#[no_mangle]
+pub extern "C" fn laurelsnap_check(file: &[u8]) -> Report
+    ensures { λ r. ⌜ reported r ≡ checkReport (checkOf (now (file .entry))) ⌝ }
+{
+    match check(file) {
+        Checked::Accepted => refusal(0, 0),
+        Checked::Refused { number, place } => refusal(number as u64, place as u64),
+    }
+}
+
+// The walk of a plan: 0, cost and utility, or the refusal's number and value.
+#[no_mangle]
+pub extern "C" fn laurelsnap_walk(file: &[u8], plan: &[u8]) -> Report
+    ensures { λ r. ⌜ reported r ≡ walkReport (walkOf (now (file .entry)) (now (plan .entry))) ⌝ }
+{
+    match walk(file, plan) {
+        Walked::Unread { number, place } => refusal(number as u64, place as u64),
+        Walked::Odd => refusal(16, 0),
+        Walked::Stopped(stop) => {
+            let fault = stop.fault;
+            refusal(fault_number(fault), stop.step as u64)
+        }
+        Walked::Reached { cost, utility } => Report {
+            number: 0,
+            first: cost as u64,
+            second: utility as u64,
+        },
+    }
+}
+
+// What a search reports: a refusal's number and value, or 0, 0 and the figures of the listing.
+#[repr(C)]
+pub struct Totals {
+    pub number: u64,
+    pub value: u64,
+    pub utility: u64,
+    pub ceiling: u64,
+    pub cost: u64,
+    pub bound: u64,
+    pub nodes: u64,
+    pub entries: u64,
+    pub steps: u64,
+}
+
+// The search for the best plan.
+#[no_mangle]
+pub extern "C" fn laurelsnap_search(
+    file: &[u8],
+    levels: &mut [u32],
+    bit: &mut [u32],
+    low: &mut [u32],
+    high: &mut [u32],
+    ubit: &mut [u32],
+    ulow: &mut [u32],
+    uhigh: &mut [u32],
+    heads: &mut [u32],
+    chain: &mut [u32],
+    memo: &mut [u32],
+    plan: &mut [u16],
+) -> Totals
+    ensures { λ r. ⌜ Reports (now (file .entry)) (lent (now (levels .entry)) (now (bit .entry)) (now (low .entry)) (now (high .entry)) (now (ubit .entry)) (now (ulow .entry)) (now (uhigh .entry)) (now (plan .entry))) (lent (now (levels .exit)) (now (bit .exit)) (now (low .exit)) (now (high .exit)) (now (ubit .exit)) (now (ulow .exit)) (now (uhigh .exit)) (now (plan .exit))) r ⌝ }
+{
+    match search(
+        file,
+        levels,
+        bit,
+        low,
+        high,
+        ubit,
+        ulow,
+        uhigh,
+        heads,
+        chain,
+        memo,
+        plan,
+    ) {
+        Searched::Refused { number, place } => Totals {
+            number: number as u64,
+            value: place as u64,
+            utility: 0,
+            ceiling: 0,
+            cost: 0,
+            bound: 0,
+            nodes: 0,
+            entries: 0,
+            steps: 0,
+        },
+        Searched::Found(found) => Totals {
+            number: 0,
+            value: 0,
+            utility: found.utility as u64,
+            ceiling: found.ceiling as u64,
+            cost: found.cost as u64,
+            bound: found.bound as u64,
+            nodes: found.nodes as u64,
+            entries: found.entries as u64,
+            steps: found.steps as u64,
+        },
+    }
+}
+
+// The question about one state: on success the least cost and 1, or 0 and 0 where the state is not reached.
+#[no_mangle]
+pub extern "C" fn laurelsnap_question(
+    file: &[u8],
+    state: &[u8],
+    levels: &[u32],
+    bit: &[u32],
+    low: &[u32],
+    high: &[u32],
+    count: usize,
+) -> Report
+    ensures { λ r. ⌜ reported r ≡ questionReport (questionOf (now (file .entry)) (now (state .entry)) (now (levels .entry)) (now (bit .entry)) (now (low .entry)) (now (high .entry)) count) ⌝ }
+{
+    match question(file, state, levels, bit, low, high, count) {
+        Answered::Refused { number, place } => refusal(number as u64, place as u64),
+        Answered::Least { cost } => Report {
+            number: 0,
+            first: cost as u64,
+            second: 1,
+        },
+        Answered::NotReached => refusal(0, 0),
+    }
+}
