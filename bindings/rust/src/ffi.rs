@@ -1,0 +1,57 @@
+//! The static library's functions, as include/laurelsnap.h declares them.
+
+#[repr(C)]
+pub struct Answer {
+    pub number: u64,
+    pub first: u64,
+    pub second: u64,
+}
+
+#[cfg(feature = "search")]
+#[repr(C)]
+pub struct Found {
+    pub number: u64,
+    pub value: u64,
+    pub utility: u64,
+    pub ceiling: u64,
+    pub cost: u64,
+    pub bound: u64,
+    pub nodes: u64,
+    pub entries: u64,
+    pub steps: u64,
+}
+
+extern "C" {
+    pub fn laurelsnap_check(file: *const u8, length: usize) -> Answer;
+    pub fn laurelsnap_walk(file: *const u8, file_length: usize, plan: *const u8, plan_length: usize) -> Answer;
+}
+
+#[cfg(feature = "search")]
+#[rustfmt::skip]
+extern "C" {
+    pub fn laurelsnap_search(
+        file: *const u8, file_length: usize,
+        levels: *mut u32, levels_length: usize,
+        bit: *mut u32, bit_length: usize,
+        low: *mut u32, low_length: usize,
+        high: *mut u32, high_length: usize,
+        utility_bit: *mut u32, utility_bit_length: usize,
+        utility_low: *mut u32, utility_low_length: usize,
+        utility_high: *mut u32, utility_high_length: usize,
+        heads: *mut u32, heads_length: usize,
+        chain: *mut u32, chain_length: usize,
+        memo: *mut u32, memo_length: usize,
+        plan: *mut u16, plan_length: usize,
+    ) -> Found;
+
+    /// Success: `first` is the least cost and `second` 1, or both are 0 for "not reached".
+    pub fn laurelsnap_question(
+        file: *const u8, file_length: usize,
+        state: *const u8, state_length: usize,
+        levels: *const u32, levels_length: usize,
+        bit: *const u32, bit_length: usize,
+        low: *const u32, low_length: usize,
+        high: *const u32, high_length: usize,
+        count: usize,
+    ) -> Answer;
+}

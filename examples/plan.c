@@ -1,0 +1,72 @@
+/*
+ * Plans a task file from C, with a million node entries: prints the listing that osp-list prints, or the refusal.
+ *
+ *   cc -O2 -Iinclude examples/plan.c target/staticlib/libsupervisor.a -o plan
+ *   ./plan examples/calibration.bpt
+ */
+#include "laurelsnap.h"
+
+#include <stdio.h>
+#include <stdlib.h>
+
+enum { FILE_MOST = 16384, ENTRIES = 1048576, LEVELS = 4096, STEPS = 4096, MEMO = 4 * ENTRIES };
+
+/* A list of so many 32-bit numbers. What they hold before a search does not matter. */
+static uint32_t *list(size_t count)
+{
+    uint32_t *out = calloc(count, sizeof *out);
+    if (!out) {
+        fprintf(stderr, "no memory\n");
+        exit(2);
+    }
+    return out;
+}
+
+/* The file's bytes; one more than a task may have, so that a longer file is refused. */
+static size_t read_task(const char *name, uint8_t *file)
+{
+    FILE *in = fopen(name, "rb");
+    size_t length = in ? fread(file, 1, FILE_MOST + 1, in) : 0;
+    if (!in || ferror(in)) {
+        fprintf(stderr, "%s cannot be read\n", name);
+        exit(2);
+    }
+    fclose(in);
+    return length;
+}
+
+/* The cost of an operator of an accepted file: the first two bytes of its record of 36. */
+static unsigned cost_of(const uint8_t *file, unsigned operator)
+{
+    size_t at = file[16] + 256u * file[17] + 36u * operator;
+    return file[at] + 256u * file[at + 1];
+}
+
+int main(int argc, char **argv)
+{
+    static uint8_t file[FILE_MOST + 1];
+    static uint16_t plan[STEPS];
+    if (argc != 2) {
+        fprintf(stderr, "usage: plan FILE\n");
+        return 2;
+    }
+    size_t length = read_task(argv[1], file);
+    struct laurelsnap_found found = laurelsnap_search(file, length, list(LEVELS), LEVELS,
+        list(ENTRIES), ENTRIES, list(ENTRIES), ENTRIES, list(ENTRIES), ENTRIES,
+        list(ENTRIES), ENTRIES, list(ENTRIES), ENTRIES, list(ENTRIES), ENTRIES,
+        list(ENTRIES), ENTRIES, list(ENTRIES), ENTRIES, list(MEMO), MEMO, plan, STEPS);
+    if (found.number) {
+        printf("refused %llu %llu\n", (unsigned long long)found.number, (unsigned long long)found.value);
+        return 1;
+    }
+    printf("utility %llu of %llu\n", (unsigned long long)found.utility, (unsigned long long)found.ceiling);
+    printf("cost %llu of %llu\n", (unsigned long long)found.cost, (unsigned long long)found.bound);
+    printf("nodes %llu %llu\n", (unsigned long long)found.nodes, (unsigned long long)found.entries);
+    printf("steps %llu\n", (unsigned long long)found.steps);
+    for (unsigned k = 0, spent = 0; k < found.steps; k++) {
+        unsigned cost = cost_of(file, plan[k]);
+        spent += cost;
+        printf("%u %u %u %u\n", k, plan[k], cost, spent);
+    }
+    return 0;
+}

@@ -1,0 +1,378 @@
+/*
+ * The static library as the bench supervisor calls it: the stand cases of the file check and the walk, then many made-up files
+ * and plans, compared with a plain check and walk written here from document 01.
+ */
+#include "laurelsnap.h"
+
+#include <stdio.h>
+#include <stdlib.h>
+#include <string.h>
+
+enum { MOST_BYTES = 20000, MOST_STEPS = 5000 };
+
+typedef struct laurelsnap_answer Answer;
+
+static unsigned long compared;
+static unsigned long faults;
+
+static void same(const char *what, Answer got, uint64_t number, uint64_t first, uint64_t second)
+{
+    compared++;
+    if (got.number == number && got.first == first && got.second == second)
+        return;
+    faults++;
+    printf("%s: %llu %llu %llu in place of %llu %llu %llu\n", what, (unsigned long long)got.number, (unsigned long long)got.first,
+        (unsigned long long)got.second, (unsigned long long)number, (unsigned long long)first, (unsigned long long)second);
+}
+
+/* ---- the plain check and walk */
+
+static size_t le16(const uint8_t *at) { return (size_t)at[0] + 256u * (size_t)at[1]; }
+static size_t le32(const uint8_t *at) { return le16(at) + 65536u * le16(at + 2); }
+
+typedef struct {
+    size_t variables, operators, terms, bound;
+    const uint8_t *variable, *operator_, *term;
+} Task;
+
+static Answer answer(uint64_t number, uint64_t first, uint64_t second)
+{
+    Answer a = { number, first, second };
+    return a;
+}
+
+static int row_right(const Task *t, const uint8_t *row, size_t used, size_t places)
+{
+    for (size_t k = 0; k < places; k++) {
+        unsigned variable = row[2 * k], value = row[2 * k + 1];
+        if (k >= used) {
+            if (variable != 0 || value != 0)
+                return 0;
+        } else if (variable >= t->variables || value >= t->variable[2 * variable] || (k > 0 && variable <= row[2 * k - 2])) {
+            return 0;
+        }
+    }
+    return 1;
+}
+
+static int overlap(size_t a, size_t m, size_t b, size_t n) { return m > 0 && n > 0 && a < b + n && b < a + m; }
+
+static Answer plain_check(const uint8_t *file, size_t length, Task *t)
+{
+    if (length < 28)
+        return answer(1, 0, 0);
+    if (length > 16384)
+        return answer(2, 0, 0);
+    if (memcmp(file, "BPT1", 4) != 0)
+        return answer(3, 0, 0);
+    if (le32(file + 24) != length)
+        return answer(4, 0, 0);
+    t->variables = le16(file + 4);
+    t->operators = le16(file + 6);
+    t->terms = le16(file + 8);
+    t->bound = le16(file + 10);
+    if (t->variables < 1 || t->variables > 32 || t->operators > 256 || t->terms > 256 || t->bound > 4095)
+        return answer(5, 0, 0);
+    size_t at[3] = { le32(file + 12), le32(file + 16), le32(file + 20) };
+    size_t bytes[3] = { 2 * t->variables, 36 * t->operators, 12 * t->terms };
+    for (int i = 0; i < 3; i++)
+        if (at[i] < 28 || at[i] + bytes[i] > length)
+            return answer(6, 0, 0);
+    for (int i = 0; i < 3; i++)
+        for (int j = 0; j < i; j++)
+            if (overlap(at[i], bytes[i], at[j], bytes[j]))
+                return answer(6, 0, 0);
+    t->variable = file + at[0];
+    t->operator_ = file + at[1];
+    t->term = file + at[2];
+    size_t bits = 0;
+    for (size_t v = 0; v < t->variables; v++) {
+        unsigned values = t->variable[2 * v];
+        if (values < 2 || values > 16 || t->variable[2 * v + 1] >= values)
+            return answer(7, v, 0);
+        bits += values <= 2 ? 1 : values <= 4 ? 2 : values <= 8 ? 3 : 4;
+    }
+    if (bits > 48)
+        return answer(8, 0, 0);
+    for (size_t o = 0; o < t->operators; o++) {
+        const uint8_t *r = t->operator_ + 36 * o;
+        if (le16(r) < 1 || le16(r) > 4095 || r[2] > 8 || r[3] > 8 || !row_right(t, r + 4, r[2], 8) || !row_right(t, r + 20, r[3], 8))
+            return answer(9, o, 0);
+    }
+    for (size_t n = 0; n < t->terms; n++) {
+        const uint8_t *r = t->term + 12 * n;
+        if (r[2] > 4 || r[3] != 0 || !row_right(t, r + 4, r[2], 4))
+            return answer(10, n, 0);
+    }
+    return answer(0, 0, 0);
+}
+
+static int holds(const uint8_t *state, const uint8_t *row, size_t used)
+{
+    for (size_t k = 0; k < used; k++)
+        if (state[row[2 * k]] != row[2 * k + 1])
+            return 0;
+    return 1;
+}
+
+static Answer plain_walk(const uint8_t *file, size_t length, const uint8_t *plan, size_t plan_length)
+{
+    Task t;
+    Answer a = plain_check(file, length, &t);
+    if (a.number != 0)
+        return a;
+    if (plan_length % 2 != 0)
+        return answer(16, 0, 0);
+    uint8_t state[32];
+    for (size_t v = 0; v < t.variables; v++)
+        state[v] = t.variable[2 * v + 1];
+    size_t cost = 0;
+    for (size_t i = 0; i < plan_length / 2; i++) {
+        size_t o = le16(plan + 2 * i);
+        if (o >= t.operators)
+            return answer(17, i, 0);
+        const uint8_t *r = t.operator_ + 36 * o;
+        if (!holds(state, r + 4, r[2]))
+            return answer(18, i, 0);
+        cost += le16(r);
+        if (cost > t.bound)
+            return answer(19, i, 0);
+        for (size_t k = 0; k < r[3]; k++)
+            state[r[20 + 2 * k]] = r[20 + 2 * k + 1];
+    }
+    size_t utility = 0;
+    for (size_t n = 0; n < t.terms; n++)
+        if (holds(state, t.term + 12 * n + 4, t.term[12 * n + 2]))
+            utility += le16(t.term + 12 * n);
+    return answer(0, cost, utility);
+}
+
+/* ---- files made in memory: header, variables, operators, terms, one behind the other */
+
+static uint8_t file[MOST_BYTES];
+static size_t length;
+
+static void put16(size_t at, size_t x)
+{
+    file[at] = (uint8_t)(x % 256);
+    file[at + 1] = (uint8_t)(x / 256 % 256);
+}
+
+static void put32(size_t at, size_t x)
+{
+    put16(at, x);
+    put16(at + 2, x / 65536);
+}
+
+static size_t operator_at(size_t o) { return le32(file + 16) + 36 * o; }
+static size_t term_at(size_t n) { return le32(file + 20) + 12 * n; }
+
+static void make(size_t variables, size_t operators, size_t terms, size_t bound)
+{
+    length = 28 + 2 * variables + 36 * operators + 12 * terms;
+    memset(file, 0, sizeof file);
+    memcpy(file, "BPT1", 4);
+    put16(4, variables);
+    put16(6, operators);
+    put16(8, terms);
+    put16(10, bound);
+    put32(12, 28);
+    put32(16, 28 + 2 * variables);
+    put32(20, 28 + 2 * variables + 36 * operators);
+    put32(24, length);
+    for (size_t v = 0; v < variables; v++)
+        file[28 + 2 * v] = 2;
+    for (size_t o = 0; o < operators; o++)
+        put16(operator_at(o), 1);
+}
+
+static void fact(size_t at, unsigned variable, unsigned value)
+{
+    file[at] = (uint8_t)variable;
+    file[at + 1] = (uint8_t)value;
+}
+
+static void pre(size_t o, unsigned variable, unsigned value) { fact(operator_at(o) + 4 + 2u * file[operator_at(o) + 2]++, variable, value); }
+static void eff(size_t o, unsigned variable, unsigned value) { fact(operator_at(o) + 20 + 2u * file[operator_at(o) + 3]++, variable, value); }
+static void asks(size_t n, unsigned variable, unsigned value) { fact(term_at(n) + 4 + 2u * file[term_at(n) + 2]++, variable, value); }
+
+static void make_P(size_t bound)
+{
+    make(2, 3, 2, bound);
+    for (size_t o = 0; o < 3; o++) {
+        pre(o, 0, o == 2);
+        pre(o, 1, 0);
+    }
+    eff(0, 1, 1);
+    eff(1, 0, 1);
+    eff(2, 1, 1);
+    put16(term_at(0), 2);
+    asks(0, 0, 1);
+    put16(term_at(1), 1);
+    asks(1, 0, 1);
+    asks(1, 1, 1);
+}
+
+static void make_Q(size_t bound)
+{
+    static const unsigned moves[4][3] = { { 0, 2, 5 }, { 0, 1, 2 }, { 1, 2, 2 }, { 0, 2, 4 } };
+    make(1, 4, 1, bound);
+    file[28] = 3;
+    for (size_t o = 0; o < 4; o++) {
+        pre(o, 0, moves[o][0]);
+        eff(o, 0, moves[o][1]);
+        put16(operator_at(o), moves[o][2]);
+    }
+    put16(term_at(0), 7);
+    asks(0, 0, 2);
+}
+
+/* ---- the stand cases */
+
+static void walks(const char *what, const char *plan, size_t plan_length, uint64_t number, uint64_t first, uint64_t second)
+{
+    same(what, laurelsnap_walk(file, length, (const uint8_t *)plan, plan_length), number, first, second);
+}
+
+static void checks(const char *what, uint64_t number, uint64_t first)
+{
+    same(what, laurelsnap_check(file, length), number, first, 0);
+}
+
+static void stand_cases(void)
+{
+    make_P(2);
+    checks("P", 0, 0);
+    walks("P 2, walk 1 2", "\1\0\2\0", 4, 0, 2, 3);
+    walks("P 2, walk 1 1", "\1\0\1\0", 4, 18, 1, 0);
+    walks("P 2, walk 3", "\3\0", 2, 17, 0, 0);
+    walks("P 2, odd plan", "\3", 1, 16, 0, 0);
+    walks("P 2, empty plan", "", 0, 0, 0, 0);
+    make_P(1);
+    walks("P 1, walk 1 2", "\1\0\2\0", 4, 19, 1, 0);
+    make_Q(5);
+    walks("Q 5, walk 1 2", "\1\0\2\0", 4, 0, 4, 7);
+    make_Q(4);
+    walks("Q 4, walk 0", "\0\0", 2, 19, 0, 0);
+    make(1, 0, 0, 0);
+    file[28] = 16;
+    checks("16 values", 0, 0);
+    file[28] = 17;
+    checks("17 values", 7, 0);
+    make(1, 1, 0, 0);
+    put16(operator_at(0), 0);
+    checks("cost 0", 9, 0);
+    make(12, 0, 0, 0);
+    for (size_t v = 0; v < 12; v++)
+        file[28 + 2 * v] = 16;
+    checks("48 bits", 0, 0);
+    make(13, 0, 0, 0);
+    for (size_t v = 0; v < 12; v++)
+        file[28 + 2 * v] = 16;
+    checks("49 bits", 8, 0);
+    make(1, 0, 0, 0);
+    length = 16384;
+    put32(24, length);
+    checks("16,384 bytes", 0, 0);
+    length = 16385;
+    put32(24, length);
+    checks("16,385 bytes", 2, 0);
+    static const uint8_t nothing[1];
+    same("no bytes", laurelsnap_check(nothing, 0), 1, 0, 0);
+    make(1, 1, 0, 4095);
+    eff(0, 0, 1);
+    static uint8_t zeros[2 * MOST_STEPS];
+    same("5,000 steps", laurelsnap_walk(file, length, zeros, sizeof zeros), 19, 4095, 0);
+}
+
+/* ---- made-up files and plans */
+
+static uint64_t seed = 1;
+
+static size_t below(size_t n)
+{
+    seed = seed * 6364136223846793005u + 1442695040888963407u;
+    return (size_t)(seed >> 33) % n;
+}
+
+static void some_facts(size_t at, size_t count_at, size_t places, size_t variables)
+{
+    size_t v = 0;
+    while (file[count_at] < places && (v += below(3)) < variables) {
+        fact(at + 2u * file[count_at]++, (unsigned)v, (unsigned)below(file[28 + 2 * v]));
+        v++;
+    }
+}
+
+static void make_any(void)
+{
+    size_t variables = 1 + below(6), operators = below(8), terms = below(5);
+    make(variables, operators, terms, below(40));
+    for (size_t v = 0; v < variables; v++) {
+        file[28 + 2 * v] = (uint8_t)(2 + below(3));
+        file[29 + 2 * v] = (uint8_t)below(file[28 + 2 * v]);
+    }
+    for (size_t o = 0; o < operators; o++) {
+        size_t at = operator_at(o);
+        put16(at, 1 + below(6));
+        if (below(2))
+            some_facts(at + 4, at + 2, 8, variables);
+        some_facts(at + 20, at + 3, 8, variables);
+    }
+    for (size_t n = 0; n < terms; n++) {
+        put16(term_at(n), below(1000));
+        some_facts(term_at(n) + 4, term_at(n) + 2, 4, variables);
+    }
+}
+
+static void compare_walks(const char *what)
+{
+    uint8_t plan[61];
+    for (int round = 0; round < 8; round++) {
+        size_t plan_length = below(sizeof plan + 1);
+        for (size_t i = 0; i < plan_length; i++)
+            plan[i] = i % 2 == 1 ? (uint8_t)(below(50) == 0) : (uint8_t)below(9);
+        Answer plain = plain_walk(file, length, plan, plan_length);
+        same(what, laurelsnap_walk(file, length, plan, plan_length), plain.number, plain.first, plain.second);
+    }
+}
+
+static void compare_check(const char *what)
+{
+    Task t;
+    Answer plain = plain_check(file, length, &t);
+    same(what, laurelsnap_check(file, length), plain.number, plain.first, plain.second);
+}
+
+static void made_up(void)
+{
+    for (int i = 0; i < 2000; i++) {
+        make_any();
+        compare_check("a file");
+        compare_walks("a walk");
+        for (int change = 0; change < 4; change++) {
+            size_t at = below(2) ? below(28) : below(length);
+            file[at] = (uint8_t)below(below(2) ? 4 : 256);
+            compare_check("a changed file");
+        }
+        compare_walks("a walk over a changed file");
+    }
+    for (int i = 0; i < 3000; i++) {
+        length = below(200);
+        for (size_t k = 0; k < length; k++)
+            file[k] = (uint8_t)below(256);
+        if (below(2) && length > 28) {
+            memcpy(file, "BPT1", 4);
+            put32(24, length);
+        }
+        compare_check("any bytes");
+    }
+}
+
+int main(void)
+{
+    stand_cases();
+    made_up();
+    printf("the supervisor's calls from C: %lu answers compared, %lu differ\n", compared, faults);
+    return faults == 0 ? EXIT_SUCCESS : EXIT_FAILURE;
+}

@@ -1,0 +1,93 @@
+//! The reference planner as a program: listings to compare with osp-list's, the listings of faulty planners, random files.
+
+use reference::plan::{best, Fault};
+use reference::random::{file, task, Dice};
+use reference::search::{search, Lengths, OSP_LIST};
+use reference::{task as bpt, walk::walk};
+use std::io::Write;
+use std::process::ExitCode;
+
+const USAGE: &str = "reference plan FILE [ENTRIES]    the listing, with osp-list's lists or so many node and utility entries
+reference faults FILE            the best plan, and what the planners with the four named faults hand over
+reference walk FILE OPERATOR...  cost and utility of a plan, or its refusal
+reference random SEED            a random task file on standard output";
+
+fn read(name: &str) -> Result<Vec<u8>, String> {
+    std::fs::read(name).map_err(|e| format!("{name}: {e}"))
+}
+
+fn plan(name: &str, entries: Option<&String>) -> Result<String, String> {
+    let lengths = match entries {
+        None => OSP_LIST,
+        Some(word) => {
+            let n = word.parse().map_err(|_| format!("'{word}' is no number"))?;
+            Lengths { nodes: [n; 3], utility: [n; 3], ..OSP_LIST }
+        }
+    };
+    Ok(match search(&read(name)?, &lengths) {
+        Ok(found) => found.listing(),
+        Err(r) => format!("refused {} {}\n", r.number, r.value),
+    })
+}
+
+fn faults(name: &str) -> Result<String, String> {
+    let task = bpt::check(&read(name)?).map_err(|r| format!("refused {} {}", r.number, r.value))?;
+    let planners = [
+        ("best plan", Fault::None),
+        ("closed when generated", Fault::ClosedWhenGenerated),
+        ("old value matters", Fault::OldValueMatters),
+        ("start value matters", Fault::StartValueMatters),
+        ("fewest steps", Fault::FewestSteps),
+        ("strict bound", Fault::StrictBound),
+    ];
+    let mut out = String::new();
+    for (label, fault) in planners {
+        let b = best(&task, fault);
+        out += &format!("{label}: utility {} cost {} steps {}:", b.utility, b.cost, b.plan.len());
+        out += &b.plan.iter().map(|o| format!(" {o}")).collect::<String>();
+        out += "\n";
+    }
+    Ok(out)
+}
+
+fn walked(name: &str, steps: &[String]) -> Result<String, String> {
+    let numbers: Result<Vec<u16>, _> = steps.iter().map(|s| s.parse::<u16>()).collect();
+    let plan: Vec<u8> = numbers.map_err(|e| e.to_string())?.iter().flat_map(|n| n.to_le_bytes()).collect();
+    Ok(match walk(&read(name)?, &plan) {
+        Ok(w) => format!("cost {} utility {}\n", w.cost, w.utility),
+        Err(r) => format!("refused {} {}\n", r.number, r.value),
+    })
+}
+
+fn run(words: &[String]) -> Result<Vec<u8>, String> {
+    match words {
+        [c, name] if c == "plan" => plan(name, None).map(String::into_bytes),
+        [c, name, n] if c == "plan" => plan(name, Some(n)).map(String::into_bytes),
+        [c, name] if c == "faults" => faults(name).map(String::into_bytes),
+        [c, name, steps @ ..] if c == "walk" => walked(name, steps).map(String::into_bytes),
+        [c, seed] if c == "random" => {
+            let mut dice = Dice(seed.parse().map_err(|_| format!("'{seed}' is no number"))?);
+            let random = task(&mut dice);
+            Ok(file(&mut dice, &random))
+        }
+        _ => Err(USAGE.to_string()),
+    }
+}
+
+fn main() -> ExitCode {
+    let words: Vec<String> = std::env::args().skip(1).collect();
+    match run(&words) {
+        Ok(out) => {
+            let written = std::io::stdout().write_all(&out);
+            if written.is_ok() {
+                ExitCode::SUCCESS
+            } else {
+                ExitCode::FAILURE
+            }
+        }
+        Err(message) => {
+            eprintln!("{message}");
+            ExitCode::FAILURE
+        }
+    }
+}

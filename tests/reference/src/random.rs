@@ -1,0 +1,182 @@
+//! Random tasks, files, plans and damage, from a seed.
+
+use crate::task::{apply, header, holds, sections, Fact, Operator, State, Task, Term, HEADER};
+
+/// Random numbers (splitmix64).
+#[derive(Clone, Debug)]
+pub struct Dice(pub u64);
+
+impl Dice {
+    pub fn number(&mut self) -> u64 {
+        self.0 = self.0.wrapping_add(0x9E37_79B9_7F4A_7C15);
+        let mut z = self.0;
+        z = (z ^ z >> 30).wrapping_mul(0xBF58_476D_1CE4_E5B9);
+        z = (z ^ z >> 27).wrapping_mul(0x94D0_49BB_1331_11EB);
+        z ^ z >> 31
+    }
+
+    /// A number below n; 0 if n is 0.
+    pub fn below(&mut self, n: usize) -> usize {
+        if n == 0 {
+            0
+        } else {
+            (self.number() % n as u64) as usize
+        }
+    }
+
+    /// A number from a to b, both included.
+    pub fn between(&mut self, a: usize, b: usize) -> usize {
+        a + self.below(b - a + 1)
+    }
+
+    pub fn one_in(&mut self, n: usize) -> bool {
+        self.below(n) == 0
+    }
+
+    pub fn pick<T: Copy>(&mut self, from: &[T]) -> T {
+        from[self.below(from.len())]
+    }
+}
+
+/// Facts of so many different variables, or fewer if there are fewer, in rising number.
+fn facts(dice: &mut Dice, sizes: &[u8], count: usize) -> Vec<Fact> {
+    let mut vars: Vec<usize> = (0..sizes.len()).collect();
+    while vars.len() > count {
+        vars.remove(dice.below(vars.len()));
+    }
+    vars.iter().map(|&v| Fact { var: v as u8, val: dice.below(sizes[v] as usize) as u8 }).collect()
+}
+
+/// A state that an operator's sequence may well meet: near the start, with a few variables moved.
+fn near(dice: &mut Dice, sizes: &[u8], start: &State) -> State {
+    let moved = dice.below(4);
+    let moves = facts(dice, sizes, moved);
+    apply(&moves, start)
+}
+
+fn operator(dice: &mut Dice, sizes: &[u8], start: &State, costs: &[u64]) -> Operator {
+    let state = near(dice, sizes, start);
+    let wanted = dice.pick(&[0, 1, 1, 2, 2, 3]);
+    let mut pre = facts(dice, sizes, wanted);
+    for f in &mut pre {
+        f.val = state[f.var as usize];
+    }
+    let changed = dice.pick(&[0, 1, 1, 1, 2, 2, 3]);
+    Operator { cost: dice.pick(costs), pre, eff: facts(dice, sizes, changed) }
+}
+
+/// A valid task with at most some thousand states: ties in utility, equal cost sums, effects without preconditions, domains
+/// that are no powers of two, bounds 0 to 40.
+pub fn task(dice: &mut Dice) -> Task {
+    let mut sizes: Vec<u8> = Vec::new();
+    let states = dice.pick(&[8, 64, 512, 2000]);
+    for _ in 0..dice.between(1, 7) {
+        let size = dice.pick(&[2, 2, 3, 3, 4, 5, 6, 7, 9, 13, 16]);
+        if sizes.iter().map(|&d| d as usize).product::<usize>() * size as usize <= states {
+            sizes.push(size);
+        }
+    }
+    if sizes.is_empty() {
+        sizes.push(2);
+    }
+    let start: State = sizes.iter().map(|&d| dice.below(d as usize) as u8).collect();
+    let costs: &[u64] = dice.pick(&[&[1][..], &[1, 2], &[1, 2, 3], &[2, 3, 4, 5], &[1, 5, 7, 4095], &[3, 6]]);
+    let weights: &[u64] = dice.pick(&[&[1][..], &[1, 2], &[0, 1, 2, 3], &[5, 10, 65_535]]);
+    let operators = (0..dice.between(0, 12)).map(|_| operator(dice, &sizes, &start, costs)).collect();
+    let mut terms = Vec::new();
+    for _ in 0..dice.between(0, 6) {
+        let count = dice.pick(&[0, 1, 1, 1, 2, 2, 3, 4]);
+        terms.push(Term { weight: dice.pick(weights), facts: facts(dice, &sizes, count) });
+    }
+    let bound = if dice.one_in(4) { dice.below(4) } else { dice.between(0, 40) };
+    Task { sizes, start, operators, terms, bound: bound as u64 }
+}
+
+/// A valid task of any size that the file allows, for the file check and the walk.
+pub fn large_task(dice: &mut Dice) -> Task {
+    let mut sizes = Vec::new();
+    let mut bits = 0;
+    for _ in 0..dice.between(1, 32) {
+        let size = dice.between(2, 16) as u8;
+        if bits + crate::task::width(size) <= crate::task::BITS_MOST {
+            bits += crate::task::width(size);
+            sizes.push(size);
+        }
+    }
+    let start: State = sizes.iter().map(|&d| dice.below(d as usize) as u8).collect();
+    let mut operators = Vec::new();
+    for _ in 0..dice.pick(&[0, 3, 20, 256]) {
+        let (pre, eff) = (dice.below(9), dice.below(9));
+        let pre = facts(dice, &sizes, pre);
+        operators.push(Operator { cost: dice.between(1, 4095) as u64, pre, eff: facts(dice, &sizes, eff) });
+    }
+    let mut terms = Vec::new();
+    for _ in 0..dice.pick(&[0, 3, 20, 256]) {
+        let count = dice.below(5);
+        terms.push(Term { weight: dice.below(65_536) as u64, facts: facts(dice, &sizes, count) });
+    }
+    Task { sizes, start, operators, terms, bound: dice.below(4096) as u64 }
+}
+
+/// A file of the task: its sections in any order, now and then with unread bytes between them.
+pub fn file(dice: &mut Dice, task: &Task) -> Vec<u8> {
+    let parts = sections(task);
+    let mut order = [0, 1, 2];
+    order.swap(0, dice.below(3));
+    order.swap(1, dice.between(1, 2));
+    let gaps = dice.one_in(2);
+    let mut body = Vec::new();
+    let mut offsets = [0; 3];
+    for k in order {
+        if gaps {
+            let gap = dice.below(8);
+            body.extend((0..gap).map(|_| dice.number() as u8));
+        }
+        offsets[k] = HEADER + body.len();
+        body.extend(&parts[k]);
+    }
+    let mut out = header(task, offsets, HEADER + body.len());
+    out.extend(body);
+    out
+}
+
+/// The file with some of its bytes changed, cut or added; its length field is mostly mended, so that later tests are met.
+pub fn damage(dice: &mut Dice, file: &[u8]) -> Vec<u8> {
+    let mut out = file.to_vec();
+    for _ in 0..dice.between(1, 3) {
+        let most = if dice.one_in(3) { HEADER } else { out.len() };
+        let at = dice.below(most.min(out.len()));
+        match dice.below(8) {
+            0 => out.truncate(at),
+            1 => out.extend((0..dice.pick(&[1, 5, 20_000])).map(|_| 0)),
+            2 if at < out.len() => out[at] ^= 1 << dice.below(8),
+            3 if at < out.len() => out[at] = dice.number() as u8,
+            4 if at < out.len() => out[at] = 0,
+            _ if at < out.len() => out[at] = out[at].wrapping_add(dice.pick(&[1, 255])),
+            _ => {}
+        }
+    }
+    if out.len() >= HEADER && !dice.one_in(6) {
+        let length = (out.len() as u32).to_le_bytes();
+        out[24..28].copy_from_slice(&length);
+    }
+    out
+}
+
+/// A plan to walk, as bytes: mostly applicable steps, now and then a wrong one or an odd byte.
+pub fn plan(dice: &mut Dice, task: &Task) -> Vec<u8> {
+    let mut state = task.start.clone();
+    let mut out = Vec::new();
+    for _ in 0..dice.below(12) {
+        let fitting: Vec<usize> = (0..task.operators.len()).filter(|&k| holds(&task.operators[k].pre, &state)).collect();
+        let step = if dice.one_in(8) || fitting.is_empty() { dice.below(task.operators.len() + 2) } else { dice.pick(&fitting) };
+        if let Some(o) = task.operators.get(step) {
+            state = apply(&o.eff, &state);
+        }
+        out.extend((step as u16).to_le_bytes());
+    }
+    if dice.one_in(16) {
+        out.push(dice.number() as u8);
+    }
+    out
+}

@@ -1,0 +1,137 @@
+#!/usr/bin/env python3
+"""Direct computation for crates/utility_cases: writes the task files that the program reads and the lines that it must print.
+
+    tests/utility/cases.py crates/utility_cases/stdin crates/utility_cases/stdout
+
+Tasks of up to 12 bits and 12 terms: terms with no facts, equal weights, the weights 0 and 65,535, facts in common. Each line has the
+entry count; 1 and 0, since lists of that many entries hold the diagram and lists of one less do not; a sum over the values at every
+list of bits; and for each of three cubes, over the states outside it, the greatest utility and 1 (0 where there are none) and a sum
+over the states that have it. Nodes are counted as different cofactors of the stages' value tables.
+"""
+import random
+import struct
+import sys
+
+CUBES = [(0, 0), (1, 1), (6, 2)]
+
+
+def width(values):
+    w = 0
+    while 2 ** w < values:
+        w += 1
+    return w
+
+
+def encode(sizes, terms):
+    """The BPT1 file of a task without operators."""
+    variables_at, terms_at = 28, 28 + 2 * len(sizes)
+    length = terms_at + 12 * len(terms)
+    out = b"BPT1" + struct.pack("<4H", len(sizes), 0, len(terms), 0)
+    out += struct.pack("<4I", variables_at, 28, terms_at, length)
+    for d in sizes:
+        out += bytes([d, 0])
+    for weight, facts in terms:
+        record = struct.pack("<HBB", weight, len(facts), 0)
+        for variable, value in facts:
+            record += bytes([variable, value])
+        out += record + bytes(12 - len(record))
+    return out
+
+
+def tables(sizes, terms):
+    """The value of every word of bits, bit k worth 2 ** k, at each stage; and the number of bits."""
+    widths = [width(d) for d in sizes]
+    offsets = [sum(widths[:v]) for v in range(len(sizes))]
+    n = sum(widths)
+
+    def value(word, variable):
+        x = 0
+        for j in range(widths[variable]):
+            x = 2 * x + ((word >> (offsets[variable] + j)) & 1)
+        return x
+
+    stages = [[0] * 2 ** n]
+    for weight, facts in terms:
+        holds = [all(value(s, v) == x for v, x in facts) for s in range(2 ** n)]
+        stages.append([u + weight * h for u, h in zip(stages[-1], holds)])
+    return stages, n
+
+
+def entry_count(stages, n):
+    """The different cofactors that depend on their first bit, over all stages, and the different values."""
+    order = sorted(range(2 ** n), key=lambda s: [(s >> j) & 1 for j in range(n)])
+    nodes = set()
+
+    def visit(bit, cofactor):
+        if len(set(cofactor)) == 1:
+            nodes.add(("end", cofactor[0]))
+            return
+        half = len(cofactor) // 2
+        low, high = cofactor[:half], cofactor[half:]
+        if low == high:
+            visit(bit + 1, low)
+        elif (bit, cofactor) not in nodes:
+            nodes.add((bit, cofactor))
+            visit(bit + 1, low)
+            visit(bit + 1, high)
+
+    for stage in stages:
+        visit(0, tuple(stage[s] for s in order))
+    return len(nodes)
+
+
+def checksum(numbers):
+    total = 0
+    for x in numbers:
+        total = (total * 31 + x) % 1000003
+    return total
+
+
+def line(sizes, terms):
+    stages, n = tables(sizes, terms)
+    last, words = stages[-1], 2 ** n
+    out = [entry_count(stages, n), 1, 0, checksum(64 + u for u in last)]
+    for care, value in CUBES:
+        # the cubes name three bits; a task may have only two
+        outside = [s for s in range(max(words, 8)) if s & care != value]
+        if not outside:
+            out.append(0)
+            continue
+        top = max(last[s % words] for s in outside)
+        having = {s for s in outside if last[s % words] == top}
+        out += [top + 1, checksum(int(s in having) for s in range(words))]
+    return "".join(" %d" % x for x in out) + "\n"
+
+
+def tasks():
+    """P and Q of document 01, no terms, large weights, and generated ones, as many as the program's buffer takes."""
+    rnd = random.Random(5)
+    cases = [
+        ([2, 2], [(2, [(0, 1)]), (1, [(0, 1), (1, 1)])]),
+        ([3], [(7, [(0, 2)])]),
+        ([5, 3], []),
+        ([2, 3, 5], [(65535, []), (0, [(0, 1)]), (65535, [(2, 4)]), (65535, [(2, 4)])]),
+    ]
+    while len(cases) < 24:
+        count = rnd.randint(1, 4) if len(cases) < 18 else 6
+        sizes = [rnd.randint(2, 8) if count < 6 else rnd.randint(3, 4) for _ in range(count)]
+        if not 3 <= sum(map(width, sizes)) <= 12:
+            continue
+        terms = []
+        for _ in range(rnd.randint(0, 12)):
+            variables = sorted(rnd.sample(range(count), rnd.randint(0, min(4, count))))
+            weight = rnd.choice([0, 1, 1, 2, 3, 7, 100, 65535])
+            terms.append((weight, [(v, rnd.randrange(sizes[v])) for v in variables]))
+        cases.append((sizes, terms))
+    return cases
+
+
+def main():
+    cases = tasks()
+    with open(sys.argv[1], "wb") as files:
+        files.write(b"".join(encode(*case) for case in cases))
+    with open(sys.argv[2], "w", encoding="ascii") as lines:
+        lines.writelines(line(*case) for case in cases)
+
+
+main()

@@ -1,0 +1,23 @@
+"""The example texts and the files beside them say the same, run by: python3 -m unittest discover -s tools/tests"""
+
+import sys
+import unittest
+from pathlib import Path
+
+TOOLS = Path(__file__).resolve().parent.parent
+EXAMPLES = TOOLS.parent / "examples"
+sys.path.insert(0, str(TOOLS))
+import bpt_format as bpt  # noqa: E402
+
+
+class Examples(unittest.TestCase):
+    def test_files_are_encoded_texts(self):
+        texts = sorted(EXAMPLES.glob("*.task"))
+        self.assertGreaterEqual(len(texts), 7)
+        for text in texts:
+            with self.subTest(text.name):
+                self.assertEqual(bpt.encode(bpt.parse(text.read_text())), text.with_suffix(".bpt").read_bytes())
+
+
+if __name__ == "__main__":
+    unittest.main()
