@@ -3,6 +3,7 @@
 #![cfg(feature = "search")]
 
 use laurelsnap::{question, search, Lists, Place, Refusal};
+use reference::plan::{reach, Fault};
 use reference::question::Answer;
 use reference::random::{damage, file, task, Dice};
 use reference::search::Lengths;
@@ -184,6 +185,38 @@ fn questions_agree() {
         }
     }
     assert!([0, 11, 12, 20, 21].iter().all(|&n| met[n] > 20), "{met:?}");
+}
+
+/// Every state of generated tasks, asked of the lists that a search left, against a search over single states.
+#[test]
+fn every_state_has_its_least_cost() {
+    let mut dice = Dice(25);
+    let (mut tasks, mut reached_states) = (0, 0);
+    for _ in 0..1_000 {
+        let random = task(&mut dice);
+        let states: usize = random.sizes.iter().map(|&d| d as usize).product();
+        if states > 1_000 {
+            continue;
+        }
+        let whole = file(&mut dice, &random);
+        let mut lists = lent(&mut dice, 41, 20_000, 300, 40);
+        let Ok(found) = search(&whole, &mut lists) else { continue };
+        let ways = reach(&random, Fault::None);
+        for number in 0..states {
+            let mut rest = number;
+            let mut digit = |d: u8| {
+                let value = rest % d as usize;
+                rest /= d as usize;
+                value as u8
+            };
+            let state: Vec<u8> = random.sizes.iter().map(|&d| digit(d)).collect();
+            let expected = ways.get(&state).map_or(Place::NotReached, |way| Place::LeastCost(way.cost));
+            assert_eq!(question(&whole, &lists, found.nodes, &state), Ok(expected));
+        }
+        tasks += 1;
+        reached_states += ways.len();
+    }
+    assert!(tasks > 100 && reached_states > 1_000, "{tasks} tasks, {reached_states} states reached");
 }
 
 #[test]
