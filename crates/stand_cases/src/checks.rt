@@ -1,13 +1,12 @@
 // The file check: for each refusal 1 to 10, files that are refused and neighbours that are not.
-use crate::files;
 use crate::show;
 ghost use Prim.Native.Nat.{_<_, _≤_};
 
 // The plain task with one byte changed.
 fn with_byte(name: &[u8], at: usize, x: u8) {
     let mut file = [0u8; 116];
-    files::plain(&mut file);
-    files::set8(&mut file, at, x);
+    stand::plain(&mut file);
+    stand::set8(&mut file, at, x);
     show::checked(name, &file);
 }
 
@@ -16,26 +15,26 @@ fn with_number(name: &[u8], at: usize, x: u16)
     requires { ⌜ at < 65536 ⌝ }
 {
     let mut file = [0u8; 116];
-    files::plain(&mut file);
-    files::set16(&mut file, at, x);
+    stand::plain(&mut file);
+    stand::set16(&mut file, at, x);
     show::checked(name, &file);
 }
 
 // The plain task without its term: an empty section at a place.
 fn with_empty_section(name: &[u8], at: u16) {
     let mut file = [0u8; 116];
-    files::plain(&mut file);
-    files::set16(&mut file, 8, 0);
-    files::set16(&mut file, 20, at);
+    stand::plain(&mut file);
+    stand::set16(&mut file, 8, 0);
+    stand::set16(&mut file, 20, at);
     show::checked(name, &file);
 }
 
 // A variable of d values and nothing else.
 fn with_variable(name: &[u8], d: u8, start: u8) {
     let mut file = [0u8; 30];
-    files::header(&mut file, 1, 0, 0, 0);
-    files::set8(&mut file, 28, d);
-    files::set8(&mut file, 29, start);
+    stand::header(&mut file, 1, 0, 0, 0);
+    stand::set8(&mut file, 28, d);
+    stand::set8(&mut file, 29, start);
     show::checked(name, &file);
 }
 
@@ -44,18 +43,18 @@ fn with_variables(name: &[u8], n: u16, wide: usize)
     requires { ⌜ (n ≤ 33) × (wide ≤ 33) ⌝ }
 {
     let mut file = [0u8; 94];
-    files::header(&mut file, n, 0, 0, 0);
-    files::variables(&mut file, 33, 2);
-    files::variables(&mut file, wide, 16);
+    stand::header(&mut file, n, 0, 0, 0);
+    stand::variables(&mut file, 33, 2);
+    stand::variables(&mut file, wide, 16);
     show::checked_first(name, &file, 28 + 2 * n as usize);
 }
 
 // A variable and nothing else, in a file of so many bytes, of which those behind the variable are not read.
 fn with_length(name: &[u8], n: u16) {
     let mut file = [0u8; 16385];
-    files::header(&mut file, 1, 0, 0, 0);
-    files::variables(&mut file, 1, 2);
-    files::set16(&mut file, 24, n);
+    stand::header(&mut file, 1, 0, 0, 0);
+    stand::variables(&mut file, 1, 2);
+    stand::set16(&mut file, 24, n);
     show::checked_first(name, &file, n as usize);
 }
 

@@ -1,6 +1,5 @@
-// The stand cases of document 01, run: each answer on a line behind the case's name, compared with the file stdout.
+// The stand cases of the file check and the walk, run: each answer on a line behind the case's name, compared with the file stdout.
 mod checks;
-mod files;
 mod show;
 mod walks;
 

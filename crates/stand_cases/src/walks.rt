@@ -1,34 +1,33 @@
 // The walk: the stand's cases, and the ends of its ranges.
-use crate::files;
 use crate::show;
 
 // Walks over the task P with a bound.
 fn over_p(name: &[u8], bound: u16, plan: &[u8]) {
     let mut file = [0u8; 164];
-    files::p(&mut file, bound);
+    stand::p(&mut file, bound);
     show::walked(name, &file, plan);
 }
 
 // Walks over the task Q with a bound.
 fn over_q(name: &[u8], bound: u16, plan: &[u8]) {
     let mut file = [0u8; 186];
-    files::q(&mut file, bound);
+    stand::q(&mut file, bound);
     show::walked(name, &file, plan);
 }
 
 // Walks over the plain task, whose operator 1 has an effect on a variable without a precondition.
 fn over_plain(name: &[u8], plan: &[u8]) {
     let mut file = [0u8; 116];
-    files::plain(&mut file);
+    stand::plain(&mut file);
     show::walked(name, &file, plan);
 }
 
 // 5000 steps of operator 0, which costs 1 and can always be applied.
 fn five_thousand() {
     let mut file = [0u8; 66];
-    files::header(&mut file, 1, 1, 0, 4095);
-    files::variables(&mut file, 1, 2);
-    files::operator(&mut file, 30, b"\x01\x00\x00\x01", b"\x00\x01");
+    stand::header(&mut file, 1, 1, 0, 4095);
+    stand::variables(&mut file, 1, 2);
+    stand::operator(&mut file, 30, b"\x01\x00\x00\x01", b"\x00\x01");
     let plan = [0u8; 10000];
     show::walked(b"5000 steps", &file, &plan);
 }

@@ -1,4 +1,4 @@
-// Task files made in memory, in lent bytes that are zero before.
+// The stand's task files P and Q, and the parts to make others from: written to lent bytes that are zero before.
 ghost use Prim.Native.Nat.{_<_, _≤_};
 ghost use lib.ListN.{length};
 

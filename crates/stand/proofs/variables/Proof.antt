@@ -1,38 +1,38 @@
--- The loop's invariant: the length is kept, and i does not pass the bytes.
+-- The loop's invariant: the length is kept, and v does not pass n.
 use Prim.Native.Nat.{_-_, _≤_}
 use mathlib.Core.Path.{_≡_, refl, _∙_}
 use native.Mathlib.Omega.{arith}
 use borrow.Author.Needs.{needs}
 use lib.ListN.{length}
-use Rattle.stand_cases.proofs.files.copy.Statement.{statement}
-use Rattle.stand_cases.proofs.files.copy.Tie as tie
+use Rattle.stand.proofs.variables.Statement.{statement}
+use Rattle.stand.proofs.variables.Tie as tie
 
 abbrev Inv-loop : tie.InvT-loop
-Inv-loop file₀ at bytes i₀ file i = (i ≤ length bytes) × (length file ≡ length file₀)
+Inv-loop file₀ n d v₀ file v = (v ≤ n) × (length file ≡ length file₀)
 
 abbrev μ-loop : tie.MeasureT-loop
-μ-loop file₀ at bytes i₀ file i = length bytes - i
+μ-loop file₀ n d v₀ file v = n - v
 
 loop-holds : tie.Need-loop-holds Inv-loop μ-loop
 loop-holds c = (omega arith, refl)
 
+mul-set8 : tie.Need-mul-set8 Inv-loop μ-loop
+mul-set8 c = omega arith
+
 add-set8 : tie.Need-add-set8 Inv-loop μ-loop
 add-set8 c = omega arith
-
-shared-slice-read-set8 : tie.Need-shared-slice-read-set8 Inv-loop μ-loop
-shared-slice-read-set8 c = omega arith
 
 set8-requires : tie.Need-set8-requires Inv-loop μ-loop
 set8-requires c κs = search needs
 
-add-i : tie.Need-add-i Inv-loop μ-loop
-add-i c = omega arith
+add-v : tie.Need-add-v Inv-loop μ-loop
+add-v c = omega arith
 
 loop-less : tie.Need-loop-less Inv-loop μ-loop
 loop-less c = omega arith
 
 loop-again : tie.Need-loop-again Inv-loop μ-loop
-loop-again c = (omega arith, c .before .before .set8 .kept .0 ∙ c .before .before .before .before .before .before .loop .inv .1)
+loop-again c = (omega arith, c .before .before .set8 .kept .0 ∙ c .before .before .before .before .before .loop .inv .1)
 
 same-length : tie.Need-same-length Inv-loop μ-loop
 same-length c = c .before .loop .inv .1
@@ -40,17 +40,17 @@ same-length c = c .before .loop .inv .1
 returns : tie.Need-returns Inv-loop μ-loop
 returns c = search needs
 
-pub copy-spec : {M : Type 1} → statement M
-copy-spec =
+pub variables-spec : {M : Type 1} → statement M
+variables-spec =
     tie.close
     (tie.spec
     Inv-loop
     μ-loop
     loop-holds
+    mul-set8
     add-set8
-    shared-slice-read-set8
     set8-requires
-    add-i
+    add-v
     loop-less
     loop-again
     same-length
