@@ -1,0 +1,3 @@
+-- Laws that belong to no one function: the stand's files, and the table of the stand cases.
+pub mod Files
+pub mod Table

@@ -1,0 +1,139 @@
+-- Document 01's stand cases as one table, a line for each case. The rows speak of `searchOf` and `walkOf` on the bytes of the stand's files:
+-- these are what the contracts of `search::search` and `walk::walk` say the code answers. Assumes nothing.
+use Prim.Native.Nat.{ℕ, zero, suc}
+use mathlib.Core.Path.{_≡_, refl, sym, ap, subst, _∙_}
+use mathlib.Core.Bool.{true, false}
+use mathlib.Core.List.{List, [], _∷_, _++_}
+use lib.ListN.{length, replicate}
+use Rattle.planning.specs.Tests.{pick, _or_}
+use Rattle.planning.specs.Model.{Task}
+use Rattle.planning.specs.Best.{Best}
+use Rattle.planning.specs.Cases.{P, Q}
+use Rattle.planning.proofs.Cases.{plan-rows}
+use Rattle.task.specs.Check.{checkOf}
+use Rattle.task.specs.Decode.{taskOf}
+use Rattle.lent.specs.Lists.{levelsShort, listsWrong}
+use Rattle.symbolic.specs.Plan.{planOf}
+use Rattle.symbolic.proofs.Table as sets
+use Rattle.walk.specs.Cases.{header, operator, fileP, fileQ, fileOf}
+use Rattle.walk.specs.Walk.{walkOf, reached, refused as stopped}
+use Rattle.walk.proofs.Cases.{checks, walks}
+use Rattle.search.specs.Search.{Lent, lent, Answer, refused, found, anyWrong, madeOf, setsOf, searchOf}
+use Rattle.search.proofs.Table as searches
+use Rattle.stand.proofs.Files.{Holds, files}
+
+-- v levels, n node entries, e utility entries and p steps are lent
+abbrev pub lists : ℕ → ℕ → ℕ → ℕ → Lent
+lists v n e p = lent (replicate v 0) (replicate n 0) (replicate n 0) (replicate n 0) (replicate e 0) (replicate e 0) (replicate e 0) (replicate p 0)
+
+-- the figures of the listing
+abbrev pub figures : ℕ → ℕ → ℕ → ℕ → ℕ → ℕ → ℕ → Answer
+figures u c g b n e k = found (record { utility = u; ceiling = c; cost = g; bound = b; nodes = n; entries = e; steps = k })
+
+-- the search answers with utility u of c, cost g of b, nodes n and e; the plan that it hands over is p, and p is the best plan
+pub record Finds (f : List ℕ) (l : Lent) (u c g b n e : ℕ) (p : List ℕ) : Type 0 where
+  pub answers : searchOf f l ≡ figures u c g b n e (length p)
+  pub hands-over : planOf (taskOf f) ≡ p
+  pub best : Best (taskOf f) p
+
+-- so many variables of 16 values, starting at 0
+unfoldable pub sixteens : ℕ → List ℕ
+sixteens zero = []
+sixteens (suc n) = 16 ∷ 0 ∷ sixteens n
+
+-- The starred cases. A walked plan has two bytes a step.
+pub record Starred : Type 0 where
+  -- P, b = 0: no steps, utility 0, nodes 2 6
+  pub P-0 : Finds (fileP 0) (lists 1 2 6 0) 0 3 0 0 2 6 []
+  -- P, b = 1 with 8 node entries: accepted, the listing of osp-list
+  pub P-1 : Finds (fileP 1) (lists 2 8 6 1) 2 3 1 1 8 6 (1 ∷ [])
+  -- P, b = 2: plan 1, 2; utility 3; cost 2
+  pub P-2 : Finds (fileP 2) (lists 3 10 6 2) 3 3 2 2 10 6 (1 ∷ 2 ∷ [])
+  -- P, b = 1 with 7 node entries: refused 14
+  pub nodes-7 : searchOf (fileP 1) (lists 2 7 6 1) ≡ refused 14 0
+  -- P, b = 1 with a plan list of 0: refused 15
+  pub steps-0 : searchOf (fileP 1) (lists 2 8 6 0) ≡ refused 15 0
+  -- walk 1, 2 with b = 2: cost 2, utility 3
+  pub walk-1-2 : walkOf (fileP 2) (1 ∷ 0 ∷ 2 ∷ 0 ∷ []) ≡ reached 2 3
+  -- walk 1, 2 with b = 1: 19 at step 1
+  pub walk-above : walkOf (fileP 1) (1 ∷ 0 ∷ 2 ∷ 0 ∷ []) ≡ stopped 19 1
+  -- walk 1, 1: 18 at step 1
+  pub walk-1-1 : walkOf (fileP 2) (1 ∷ 0 ∷ 1 ∷ 0 ∷ []) ≡ stopped 18 1
+  -- Q, b = 5: plan 1, 2 at cost 4
+  pub Q-5 : Finds (fileQ 5) (lists 6 8 6 2) 7 7 4 5 8 4 (1 ∷ 2 ∷ [])
+  -- Q, b = 4: the same
+  pub Q-4 : Finds (fileQ 4) (lists 5 8 6 2) 7 7 4 4 8 4 (1 ∷ 2 ∷ [])
+  -- Q, b = 3: no steps
+  pub Q-3 : Finds (fileQ 3) (lists 4 5 6 0) 0 7 0 3 5 4 []
+
+-- The others.
+pub record Unstarred : Type 0 where
+  -- P, b = 1 with a level list of 1: refused 11
+  pub levels-1 : searchOf (fileP 1) (lists 1 8 6 1) ≡ refused 11 0
+  -- walk 3: 17 at step 0
+  pub walk-3 : walkOf (fileP 2) (3 ∷ 0 ∷ []) ≡ stopped 17 0
+  -- 16 values accepted, 17 refused 7
+  pub values-16 : checkOf (fileOf 1 (16 ∷ 15 ∷ []) 30) ≡ (0, 0)
+  pub values-17 : checkOf (fileOf 1 (17 ∷ 0 ∷ []) 30) ≡ (7, 0)
+  -- cost 0 refused 9
+  pub cost-0 : checkOf (header 1 1 0 0 30 66 66 ++ (2 ∷ 0 ∷ []) ++ operator 0 0 0 [] []) ≡ (9, 0)
+  -- 48 bits accepted, 49 refused 8
+  pub bits-48 : checkOf (fileOf 12 (sixteens 12) 52) ≡ (0, 0)
+  pub bits-49 : checkOf (fileOf 13 (sixteens 12 ++ (2 ∷ 0 ∷ [])) 54) ≡ (8, 0)
+
+-- an accepted file and lists that pass 11 and 12 leave 13 to 15, which do not look at the level list
+due :
+    {f : List ℕ} {t : Task} (v n e p : ℕ)
+    → Holds f t
+    → levelsShort (length (lists v n e p .levels)) (t .bound) ≡ false
+    → anyWrong (lists v n e p) ≡ false
+    → searchOf f (lists v n e p) ≡ madeOf t (lists 0 n e p)
+unfolding searchOf madeOf setsOf pick
+due v n e p h s w = rw (h .sound, h .task, s, w)
+
+-- an accepted file and a level list that does not pass 11
+short :
+    {f : List ℕ} {t : Task} (l : Lent) → Holds f t → levelsShort (length (l .levels)) (t .bound) ≡ true → searchOf f l ≡ refused 11 0
+unfolding searchOf pick
+short l h s = rw (h .sound, h .task, s)
+
+finds :
+    {f : List ℕ} {t : Task} {l : Lent} {u c g b n e : ℕ} {p : List ℕ}
+    → Holds f t
+    → searchOf f l ≡ figures u c g b n e (length p)
+    → planOf t ≡ p
+    → Best t p
+    → Finds f l u c g b n e p
+finds {p = p} h a r s = record {
+  answers = a;
+  hands-over = ap planOf (h .task) ∙ r;
+  best = subst (λ x. Best x p) (sym (h .task)) s;
+}
+
+pub starred : Starred
+unfolding levelsShort listsWrong anyWrong _or_ P Q
+starred = record {
+  P-0 = finds (files .0) (due 1 2 6 0 (files .0) refl refl ∙ searches.P-with-0) (sets.P-0 .plan-is) (plan-rows .0 .plan);
+  P-1 = finds (files .1) (due 2 8 6 1 (files .1) refl refl ∙ searches.P-with-1) (sets.P-1 .plan-is) (plan-rows .1 .plan);
+  P-2 = finds (files .2) (due 3 10 6 2 (files .2) refl refl ∙ searches.P-with-2) (sets.P-2 .plan-is) (plan-rows .2 .plan);
+  nodes-7 = due 2 7 6 1 (files .1) refl refl ∙ searches.P-nodes-7;
+  steps-0 = due 2 8 6 0 (files .1) refl refl ∙ searches.P-plan-0;
+  walk-1-2 = cc walks;
+  walk-above = cc walks;
+  walk-1-1 = cc walks;
+  Q-5 = finds (files .5) (due 6 8 6 2 (files .5) refl refl ∙ searches.Q-with-5) (sets.Q-5 .plan-is) (plan-rows .5 .plan);
+  Q-4 = finds (files .4) (due 5 8 6 2 (files .4) refl refl ∙ searches.Q-with-4) (sets.Q-4 .plan-is) (plan-rows .4 .plan);
+  Q-3 = finds (files .3) (due 4 5 6 0 (files .3) refl refl ∙ searches.Q-with-3) (sets.Q-3 .plan-is) (plan-rows .3 .plan);
+}
+
+pub unstarred : Unstarred
+unfolding levelsShort P sixteens
+unstarred = record {
+  levels-1 = short (lists 1 8 6 1) (files .1) refl;
+  walk-3 = cc walks;
+  values-16 = cc checks;
+  values-17 = cc checks;
+  cost-0 = cc checks;
+  bits-48 = cc checks;
+  bits-49 = cc checks;
+}
