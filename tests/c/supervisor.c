@@ -1,6 +1,6 @@
 /*
- * The static library as the bench supervisor calls it: the stand cases of the file check and the walk, then many made-up files
- * and plans, compared with a plain check and walk written here from document 01.
+ * The static library as the bench supervisor calls it: the stand cases of the file check and the walk, searches in lists of the greatest
+ * lengths, then many made-up files and plans, compared with a plain check and walk written here from document 01.
  */
 #include "laurelsnap.h"
 
@@ -285,6 +285,28 @@ static void stand_cases(void)
     same("5,000 steps", laurelsnap_walk(file, length, zeros, sizeof zeros), 19, 4095, 0);
 }
 
+/* ---- searches: P with the bound 1 in node lists and utility lists of these lengths */
+
+static void searches(const char *what, size_t nodes, size_t entries, uint64_t number, uint64_t steps)
+{
+    static uint32_t lists[6][1048577], levels[2], working[3][256];
+    static uint16_t plan[1];
+    struct laurelsnap_found found = laurelsnap_search(file, length, levels, 2, lists[0], nodes, lists[1], nodes, lists[2], nodes, lists[3],
+        entries, lists[4], entries, lists[5], entries, working[0], 256, working[1], 256, working[2], 256, plan, 1);
+    same(what, answer(found.number, found.value, found.steps), number, 0, steps);
+}
+
+static void long_lists(void)
+{
+    make_P(1);
+    searches("8 node and 6 utility entries", 8, 6, 0, 1);
+    searches("5 utility entries", 8, 5, 13, 0);
+    searches("7 node entries", 7, 6, 14, 0);
+    searches("1,048,576 entries", 1048576, 1048576, 0, 1);
+    searches("1,048,577 node entries", 1048577, 6, 12, 0);
+    searches("1,048,577 utility entries", 8, 1048577, 12, 0);
+}
+
 /* ---- made-up files and plans */
 
 static uint64_t seed = 1;
@@ -372,6 +394,7 @@ static void made_up(void)
 int main(void)
 {
     stand_cases();
+    long_lists();
     made_up();
     printf("the supervisor's calls from C: %lu answers compared, %lu differ\n", compared, faults);
     return faults == 0 ? EXIT_SUCCESS : EXIT_FAILURE;

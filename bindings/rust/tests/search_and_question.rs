@@ -232,6 +232,8 @@ fn the_worked_task() {
 
 #[test]
 fn lists_that_are_too_long() {
-    let mut lists = Lists::new(1_048_577, 16);
-    assert_eq!(search(&example("p-1"), &mut lists), Err(Refusal { number: 12, value: 0 }));
+    for (nodes, utility) in [(1_048_577, 16), (16, 1_048_577)] {
+        let mut lists = Lists::new(nodes, utility);
+        assert_eq!(search(&example("p-1"), &mut lists), Err(Refusal { number: 12, value: 0 }));
+    }
 }

@@ -1,6 +1,6 @@
 // The stand cases of the search, run: figures and plans, lists of exact length and one less, and the cases on which a faulty planner would
 // still hand over a list that runs. Each answer stands on a line behind the case's name, and is compared with the file stdout. Lists of
-// 1,048,577 entries are lent from Rust (bindings/rust/tests): three of them are more than a program's stack holds.
+// 1,048,577 entries are lent from C (tests/c/supervisor.c): three of them are more than a program's stack holds.
 mod show;
 
 use search::search::search;
