@@ -1,6 +1,6 @@
 //! Random tasks, files, plans and damage, from a seed.
 
-use crate::task::{apply, header, holds, sections, Fact, Operator, State, Task, Term, HEADER};
+use crate::task::{apply, header, holds, sections, Fact, Operator, State, Task, Term, COST_MOST, HEADER};
 
 /// Random numbers (splitmix64).
 #[derive(Clone, Debug)]
@@ -47,31 +47,54 @@ fn facts(dice: &mut Dice, sizes: &[u8], count: usize) -> Vec<Fact> {
     vars.iter().map(|&v| Fact { var: v as u8, val: dice.below(sizes[v] as usize) as u8 }).collect()
 }
 
-/// A state that an operator's sequence may well meet: near the start, with a few variables moved.
-fn near(dice: &mut Dice, sizes: &[u8], start: &State) -> State {
-    let moved = dice.below(4);
-    let moves = facts(dice, sizes, moved);
-    apply(&moves, start)
+/// The facts with the values that the variables have in a state.
+fn facts_of(dice: &mut Dice, sizes: &[u8], count: usize, state: &State) -> Vec<Fact> {
+    facts(dice, sizes, count).into_iter().map(|f| Fact { val: state[f.var as usize], ..f }).collect()
 }
 
-fn operator(dice: &mut Dice, sizes: &[u8], start: &State, costs: &[u64]) -> Operator {
-    let state = near(dice, sizes, start);
-    let wanted = dice.pick(&[0, 1, 1, 2, 2, 3]);
-    let mut pre = facts(dice, sizes, wanted);
-    for f in &mut pre {
-        f.val = state[f.var as usize];
+/// One of the states met, half the time the last.
+fn one_met(dice: &mut Dice, met: &[State]) -> State {
+    let last = met.len() - 1;
+    met[if dice.one_in(2) { last } else { dice.below(last) }].clone()
+}
+
+/// An operator that is applicable in one of the states met so far; the state that it leads to is met too.
+fn operator(dice: &mut Dice, sizes: &[u8], met: &mut Vec<State>, costs: &[u64]) -> Operator {
+    let state = one_met(dice, met);
+    let (asked, changed) = (dice.pick(&[0, 1, 1, 1, 2, 2, 3]), dice.pick(&[0, 1, 1, 1, 1, 1, 1, 2, 2, 3]));
+    let pre = facts_of(dice, sizes, asked, &state);
+    let mut eff = facts(dice, sizes, changed);
+    if !dice.one_in(4) {
+        eff.iter_mut().filter(|f| f.val == state[f.var as usize]).for_each(|f| f.val = (f.val + 1) % sizes[f.var as usize]);
     }
-    let changed = dice.pick(&[0, 1, 1, 1, 2, 2, 3]);
-    Operator { cost: dice.pick(costs), pre, eff: facts(dice, sizes, changed) }
+    met.push(apply(&eff, &state));
+    Operator { cost: dice.pick(costs), pre, eff }
+}
+
+/// The operator that does what two do one after the other, for the sum of their costs; none if the first undoes what the second asks.
+fn joined(first: &Operator, second: &Operator) -> Option<Operator> {
+    let value = |facts: &[Fact], var: u8| facts.iter().find(|f| f.var == var).map(|f| f.val);
+    let (mut pre, mut eff) = (first.pre.clone(), second.eff.clone());
+    for f in &second.pre {
+        match value(&first.eff, f.var).or(value(&first.pre, f.var)) {
+            None => pre.push(*f),
+            Some(val) if val != f.val => return None,
+            Some(_) => {}
+        }
+    }
+    eff.extend(first.eff.iter().filter(|f| value(&second.eff, f.var).is_none()));
+    pre.sort_by_key(|f| f.var);
+    eff.sort_by_key(|f| f.var);
+    Some(Operator { cost: (first.cost + second.cost).min(COST_MOST), pre, eff })
 }
 
 /// A valid task with at most some thousand states: ties in utility, equal cost sums, effects without preconditions, domains
 /// that are no powers of two, bounds 0 to 40.
 pub fn task(dice: &mut Dice) -> Task {
     let mut sizes: Vec<u8> = Vec::new();
-    let states = dice.pick(&[8, 64, 512, 2000]);
-    for _ in 0..dice.between(1, 7) {
-        let size = dice.pick(&[2, 2, 3, 3, 4, 5, 6, 7, 9, 13, 16]);
+    let states = dice.pick(&[8, 128, 512, 2000, 2000]);
+    for _ in 0..dice.between(2, 9) {
+        let size = dice.pick(&[2, 2, 2, 3, 3, 3, 4, 5, 6, 7, 9, 13, 16]);
         if sizes.iter().map(|&d| d as usize).product::<usize>() * size as usize <= states {
             sizes.push(size);
         }
@@ -80,13 +103,23 @@ pub fn task(dice: &mut Dice) -> Task {
         sizes.push(2);
     }
     let start: State = sizes.iter().map(|&d| dice.below(d as usize) as u8).collect();
-    let costs: &[u64] = dice.pick(&[&[1][..], &[1, 2], &[1, 2, 3], &[2, 3, 4, 5], &[1, 5, 7, 4095], &[3, 6]]);
+    let costs: &[u64] =
+        dice.pick(&[&[1][..], &[1, 2], &[1, 2, 3], &[2, 3, 4, 5], &[1, 5, 7, 4095], &[3, 6], &[4, 6, 10], &[7, 8, 15]]);
     let weights: &[u64] = dice.pick(&[&[1][..], &[1, 2], &[0, 1, 2, 3], &[5, 10, 65_535]]);
-    let operators = (0..dice.between(0, 12)).map(|_| operator(dice, &sizes, &start, costs)).collect();
+    let mut met = vec![start.clone()];
+    let count = if dice.one_in(8) { dice.below(4) } else { dice.between(6, 20) };
+    let mut operators: Vec<Operator> = (0..count).map(|_| operator(dice, &sizes, &mut met, costs)).collect();
+    let joins: Vec<Operator> =
+        (0..count).filter_map(|_| joined(&operators[dice.below(count)], &operators[dice.below(count)])).collect();
+    for join in joins.into_iter().take(4) {
+        operators.insert(dice.between(0, operators.len()), join);
+    }
     let mut terms = Vec::new();
-    for _ in 0..dice.between(0, 6) {
-        let count = dice.pick(&[0, 1, 1, 1, 2, 2, 3, 4]);
-        terms.push(Term { weight: dice.pick(weights), facts: facts(dice, &sizes, count) });
+    for _ in 0..dice.between(0, 8) {
+        let count = dice.pick(&[0, 1, 2, 2, 3, 3, 4]);
+        let wanted = one_met(dice, &met);
+        let facts = if dice.one_in(4) { facts(dice, &sizes, count) } else { facts_of(dice, &sizes, count, &wanted) };
+        terms.push(Term { weight: dice.pick(weights), facts });
     }
     let bound = if dice.one_in(4) { dice.below(4) } else { dice.between(0, 40) };
     Task { sizes, start, operators, terms, bound: bound as u64 }

@@ -1,7 +1,7 @@
 //! The search's answer from file bytes and list lengths (refusals 1 to 15), and the test of the lists it leaves.
 
 use crate::diagrams::Node;
-use crate::plan::{choose, reach, Best, Fault};
+use crate::plan::{choose, reach, Best, Fault, Reached};
 use crate::sets::{make, Sets};
 use crate::task::{check, refuse, Refusal, Task};
 use crate::utility::entries;
@@ -21,10 +21,11 @@ pub struct Lengths {
 /// What the program osp-list lends.
 pub const OSP_LIST: Lengths = Lengths { levels: 4096, nodes: [1024; 3], utility: [512; 3], plan: 4096 };
 
-/// What success reports, with the sets behind it.
+/// What success reports, with the states and the sets behind it.
 #[derive(Debug)]
 pub struct Found {
     pub task: Task,
+    pub reached: Reached,
     pub best: Best,
     pub ceiling: u64,
     pub nodes: u64,
@@ -60,7 +61,7 @@ pub fn search(file: &[u8], lengths: &Lengths) -> Result<Found, Refusal> {
         return refuse(15, 0);
     }
     let ceiling = task.ceiling();
-    Ok(Found { task, best, ceiling, nodes: nodes as u64, entries: entries as u64, sets })
+    Ok(Found { task, reached, best, ceiling, nodes: nodes as u64, entries: entries as u64, sets })
 }
 
 impl Found {

@@ -1,12 +1,9 @@
 //! The library's file check and walk against the reference, on tens of thousands of files and plans, valid and damaged.
 
+use comparison::refusal;
 use laurelsnap::{check, walk, walk_bytes, Refusal, Walked};
 use reference::random::{damage, file, large_task, plan, task, Dice};
 use reference::task::encode;
-
-fn ours(refusal: reference::task::Refusal) -> Refusal {
-    Refusal { number: refusal.number, value: refusal.value }
-}
 
 fn example(name: &str) -> Vec<u8> {
     std::fs::read(format!("{}/../../examples/{name}.bpt", env!("CARGO_MANIFEST_DIR"))).expect("an example file")
@@ -19,7 +16,7 @@ fn checks_agree() {
         let random = if turn % 8 == 0 { large_task(&mut dice) } else { task(&mut dice) };
         let whole = file(&mut dice, &random);
         let tried = if dice.one_in(5) { whole } else { damage(&mut dice, &whole) };
-        assert_eq!(check(&tried), reference::task::check(&tried).map(|_| ()).map_err(ours), "turn {turn}");
+        assert_eq!(check(&tried), reference::task::check(&tried).map(|_| ()).map_err(refusal), "turn {turn}");
     }
 }
 
@@ -34,7 +31,7 @@ fn checks_agree_on_noise() {
             let field = (noise.len() as u32).to_le_bytes();
             noise[24..28].copy_from_slice(&field);
         }
-        assert_eq!(check(&noise), reference::task::check(&noise).map(|_| ()).map_err(ours));
+        assert_eq!(check(&noise), reference::task::check(&noise).map(|_| ()).map_err(refusal));
     }
 }
 
@@ -47,7 +44,7 @@ fn walks_agree() {
         let whole = file(&mut dice, &random);
         let tried = if dice.one_in(10) { damage(&mut dice, &whole) } else { whole };
         let expected = reference::walk::walk(&tried, &steps);
-        let expected = expected.map(|w| Walked { cost: w.cost, utility: w.utility }).map_err(ours);
+        let expected = expected.map(|w| Walked { cost: w.cost, utility: w.utility }).map_err(refusal);
         assert_eq!(walk_bytes(&tried, &steps), expected, "turn {turn}");
     }
 }

@@ -1,80 +1,21 @@
 //! The library's search and question against the reference: figures, plan, every level, the node entries, and what each refusal
-//! leaves as it was. Needs a library that exports both (feature "search").
-#![cfg(feature = "search")]
+//! leaves as it was.
 
+use comparison::{compare_question, compare_search, lent};
 use laurelsnap::{question, search, Lists, Place, Refusal};
 use reference::plan::{reach, Fault};
-use reference::question::Answer;
 use reference::random::{damage, file, task, Dice};
 use reference::search::Lengths;
-
-fn ours(refusal: reference::task::Refusal) -> Refusal {
-    Refusal { number: refusal.number, value: refusal.value }
-}
 
 fn example(name: &str) -> Vec<u8> {
     std::fs::read(format!("{}/../../examples/{name}.bpt", env!("CARGO_MANIFEST_DIR"))).expect("an example file")
 }
 
-/// Lists full of noise, of lengths that are mostly enough.
-fn lent(dice: &mut Dice, levels: usize, nodes: usize, utility: usize, steps: usize) -> Lists {
-    let mut noise = |count: usize| (0..count).map(|_| dice.number() as u32 % 300).collect::<Vec<u32>>();
-    let (levels, bit, low, high) = (noise(levels), noise(nodes), noise(nodes), noise(nodes));
-    let (utility_bit, utility_low, utility_high) = (noise(utility), noise(utility), noise(utility));
-    let plan = noise(steps).iter().map(|&x| x as u16).collect();
-    let mut working = |most: &[usize]| {
-        let count = dice.pick(most);
-        (0..count).map(|_| dice.number() as u32).collect::<Vec<u32>>()
-    };
-    let heads = working(&[0, 1, 7, 64, 1024]);
-    let chain = working(&[0, 5, 100, 4096, 20_000]);
-    let memo = working(&[0, 3, 4, 9, 400, 16_384]);
-    Lists { levels, bit, low, high, utility_bit, utility_low, utility_high, heads, chain, memo, plan }
-}
-
-fn lengths(lists: &Lists) -> Lengths {
-    Lengths {
-        levels: lists.levels.len(),
-        nodes: [lists.bit.len(), lists.low.len(), lists.high.len()],
-        utility: [lists.utility_bit.len(), lists.utility_low.len(), lists.utility_high.len()],
-        plan: lists.plan.len(),
-    }
-}
-
-/// Whether the lists still hold what a refusal keeps.
-fn kept(number: u64, before: &Lists, after: &Lists) -> bool {
-    let nodes = before.levels == after.levels && before.bit == after.bit && before.low == after.low && before.high == after.high;
-    let utility = before.utility_bit == after.utility_bit
-        && before.utility_low == after.utility_low
-        && before.utility_high == after.utility_high;
-    before.plan == after.plan && (nodes || number > 13) && (utility || number > 12)
-}
-
 /// One search with these lists, compared in full; the refusal's number, or 0.
-fn compare(file: &[u8], mut lists: Lists) -> u64 {
-    let before = lists.clone();
-    let got = search(file, &mut lists);
-    match reference::search::search(file, &lengths(&before)) {
-        Err(refusal) => {
-            assert_eq!(got, Err(ours(refusal)));
-            assert!(kept(refusal.number, &before, &lists), "refusal {} changed a list", refusal.number);
-            refusal.number
-        }
-        Ok(mut expected) => {
-            let found = got.expect("the reference accepts it");
-            assert_eq!((found.utility, found.ceiling), (expected.best.utility, expected.ceiling));
-            assert_eq!((found.cost, found.bound), (expected.best.cost, expected.task.bound));
-            assert_eq!((found.nodes, found.entries), (expected.nodes, expected.entries));
-            assert_eq!(found.plan(&lists), expected.best.plan);
-            expected.test_lists(&lists.levels, &lists.bit, &lists.low, &lists.high).expect("the lists");
-            let (steps, levels, nodes) = (found.steps as usize, found.bound as usize + 1, found.nodes as usize);
-            assert_eq!(lists.plan[steps..], before.plan[steps..]);
-            assert_eq!(lists.levels[levels..], before.levels[levels..]);
-            assert_eq!(lists.bit[nodes..], before.bit[nodes..]);
-            assert_eq!(lists.low[nodes..], before.low[nodes..]);
-            assert_eq!(lists.high[nodes..], before.high[nodes..]);
-            0
-        }
+fn compare(file: &[u8], lists: Lists) -> u64 {
+    match compare_search(file, lists) {
+        Ok(both) => both.map_or_else(|refusal| refusal.number, |_| 0),
+        Err(difference) => panic!("{difference}"),
     }
 }
 
@@ -134,22 +75,6 @@ fn exact_lengths_are_accepted_and_one_less_is_refused() {
     }
 }
 
-/// The answer in the library's terms.
-fn place(answer: Answer) -> Place {
-    match answer {
-        Answer::LeastCost(cost) => Place::LeastCost(cost),
-        Answer::NotReached => Place::NotReached,
-    }
-}
-
-/// One question, compared; the refusal's number, or 0.
-fn ask(file: &[u8], lists: &Lists, nodes: u64, state: &[u8]) -> u64 {
-    let seen = reference::question::Lists { levels: &lists.levels, bit: &lists.bit, low: &lists.low, high: &lists.high };
-    let expected = reference::question::question(file, &seen, nodes, state);
-    assert_eq!(question(file, lists, nodes, state), expected.map(place).map_err(ours));
-    expected.map_or_else(|refusal| refusal.number, |_| 0)
-}
-
 #[test]
 fn questions_agree() {
     let mut dice = Dice(24);
@@ -181,7 +106,8 @@ fn questions_agree() {
                 10 => asked.levels.swap(0, dice.below(41)),
                 _ => {}
             }
-            met[ask(&whole, &asked, nodes, &state) as usize] += 1;
+            let number = compare_question(&whole, &asked, nodes, &state).unwrap_or_else(|difference| panic!("{difference}"));
+            met[number as usize] += 1;
         }
     }
     assert!([0, 11, 12, 20, 21].iter().all(|&n| met[n] > 20), "{met:?}");
