@@ -5,10 +5,8 @@
  *
  * Usage: diagrams ENTRIES BITS SEED
  */
-#include "laurelsnap_sets.h"
+#include "diagrams.h"
 #include <bdd.h>
-#include <stdbool.h>
-#include <stdint.h>
 #include <stdio.h>
 #include <stdlib.h>
 #include <string.h>
@@ -19,16 +17,6 @@ static uint32_t *bit, *low, *high, *heads, *chain, *memo;
 static size_t count;
 
 #define LENT bit, entries, low, entries, high, entries, heads, entries, chain, entries, memo, slots, count
-
-static uint64_t seed;
-
-static uint64_t draw(uint64_t below)
-{
-    seed ^= seed << 13;
-    seed ^= seed >> 7;
-    seed ^= seed << 17;
-    return (seed >> 11) % below;
-}
 
 static double now(void)
 {
@@ -60,13 +48,6 @@ static BDD cube_bdd(int bits, uint64_t care, uint64_t value)
             r = s;
         }
     return r;
-}
-
-static bool member(uint32_t a, uint64_t state)
-{
-    while (a >= 2)
-        a = state >> bit[a - 2] & 1 ? high[a - 2] : low[a - 2];
-    return a == 1;
 }
 
 static bool member_bdd(BDD a, uint64_t state)
@@ -154,7 +135,7 @@ int main(int argc, char **argv)
         ours[k] = r.name, theirs[k] = s;
         for (int m = 0; m < 4; m++) {
             uint64_t state = draw(1ull << 40);
-            wrong += member(r.name, state) != member_bdd(s, state);
+            wrong += member(bit, low, high, r.name, state) != member_bdd(s, state);
         }
     }
     printf("%zu entries, %d bits, %ld operations: ours %.0f ns, BuDDy %.0f ns, ratio %.2f%s\n", count, bits, n, t_ours / n, t_theirs / n, t_ours / t_theirs, wrong ? " WRONG" : "");

@@ -3,7 +3,7 @@
  * number of entries with the number of different cofactors of the tables, and the answer "full" in lists that are just long enough and in
  * lists that are one entry too short; with working lists of length 0, 1, 7 and 4,096.
  */
-#include "laurelsnap_sets.h"
+#include "diagrams.h"
 #include <stdio.h>
 #include <stdlib.h>
 #include <string.h>
@@ -16,20 +16,11 @@ struct step {
     uint64_t care, value;
 };
 
-static uint64_t seed;
 static struct step steps[SETS];
 static uint8_t states[SETS][STATES]; /* set 0 is the full one */
 static size_t counts[SETS];          /* the entries after each set */
 static uint8_t cofactors[SETS * STATES];
 static size_t width;
-
-static uint64_t draw(uint64_t below)
-{
-    seed ^= seed << 13;
-    seed ^= seed >> 7;
-    seed ^= seed << 17;
-    return (seed >> 11) % below;
-}
 
 static int by_bytes(const void *a, const void *b)
 {
@@ -87,13 +78,6 @@ static void choose(int bits)
 
 static uint32_t bit[ENTRIES], low[ENTRIES], high[ENTRIES], heads[WORK], chain[WORK], memo[WORK];
 
-static bool member(uint32_t a, size_t state)
-{
-    while (a >= 2)
-        a = state >> bit[a - 2] & 1 ? high[a - 2] : low[a - 2];
-    return a == 1;
-}
-
 static int fail(const char *what, int bits, size_t n, int t)
 {
     fprintf(stderr, "diagrams: %s: %d bits, %zu entries, set %d\n", what, bits, n, t);
@@ -124,7 +108,7 @@ static int run(int bits, size_t n, size_t h, size_t c, size_t m)
             return fail("count", bits, n, t);
         count = r.count, names[t] = r.name;
         for (size_t x = 0; x < (size_t)1 << bits; x++)
-            if (member(r.name, x) != states[t][x])
+            if (member(bit, low, high, r.name, x) != states[t][x])
                 return fail("member", bits, n, t);
     }
     for (size_t i = count; i < ENTRIES; i++)
