@@ -3,16 +3,17 @@
 
     tests/utility/cases.py crates/utility_cases/stdin crates/utility_cases/stdout
 
-Tasks of up to 12 bits and 12 terms: terms with no facts, equal weights, the weights 0 and 65,535, facts in common. Each line has the
-entry count; 1 and 0, since lists of that many entries hold the diagram and lists of one less do not; a sum over the values at every
-list of bits; and for each of three cubes, over the states outside it, the greatest utility and 1 (0 where there are none) and a sum
-over the states that have it. Nodes are counted as different cofactors of the stages' value tables.
+Tasks of up to 12 bits and 12 terms: terms with no facts, equal weights, the weights 0 and 65,535, facts in common. A task has three
+lines, which are the same, since the program does everything with memo lists of no number, of one, and of many. A line has the entry
+count; 1 and 0, since lists of that many entries hold the diagram and lists of one less do not; a sum over the values at every list of
+bits; and for each of some random sets the greatest utility and 1 (0 where it is empty) and a sum over the states that have it. Nodes are
+counted as different cofactors of the stages' value tables, sets are sets of words.
 """
 import random
 import struct
 import sys
 
-CUBES = [(0, 0), (1, 1), (6, 2)]
+SETS = 8  # as in the program
 
 
 def width(values):
@@ -87,19 +88,33 @@ def checksum(numbers):
     return total
 
 
-def line(sizes, terms):
+def draw(x):
+    """Lehmer's generator, as in the program."""
+    return x * 48271 % 2147483647
+
+
+def random_set(words, cubes, x):
+    """No word or every word, by turns, and then each random cube joined or taken away."""
+    made = set(range(words)) if cubes % 2 else set()
+    for _ in range(cubes):
+        y = draw(x)
+        cube = {s for s in range(words) if (s ^ y) & x % words == 0}
+        made = made - cube if y // 65536 % 3 == 0 else made | cube
+        x = draw(y)
+    return made
+
+
+def line(sizes, terms, seed):
     stages, n = tables(sizes, terms)
     last, words = stages[-1], 2 ** n
     out = [entry_count(stages, n), 1, 0, checksum(64 + u for u in last)]
-    for care, value in CUBES:
-        # the cubes name three bits; a task may have only two
-        outside = [s for s in range(max(words, 8)) if s & care != value]
-        if not outside:
+    for cubes in range(SETS):
+        states = random_set(words, cubes, draw(draw(seed) + cubes))
+        if not states:
             out.append(0)
             continue
-        top = max(last[s % words] for s in outside)
-        having = {s for s in outside if last[s % words] == top}
-        out += [top + 1, checksum(int(s in having) for s in range(words))]
+        top = max(last[s] for s in states)
+        out += [top + 1, checksum(int(s in states and last[s] == top) for s in range(words))]
     return "".join(" %d" % x for x in out) + "\n"
 
 
@@ -130,8 +145,11 @@ def main():
     cases = tasks()
     with open(sys.argv[1], "wb") as files:
         files.write(b"".join(encode(*case) for case in cases))
+    seed = 1
     with open(sys.argv[2], "w", encoding="ascii") as lines:
-        lines.writelines(line(*case) for case in cases)
+        for case in cases:
+            lines.write(3 * line(*case, seed))
+            seed = draw(seed)
 
 
 main()

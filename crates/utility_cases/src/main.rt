@@ -1,17 +1,33 @@
-// The utility diagrams of the task files on standard input, which stand there one behind the other. For each: the entry count; whether
-// lists of that many entries hold the diagram, and lists of one less; a sum over its values at every list of bits; and, within what
-// some cubes leave of all states, the greatest utility and 1 and a sum over the states that have it.
+// The utility diagrams of the task files on standard input, which stand there one behind the other. For each file three lines that must be
+// the same, with memo lists of no number, of one, and of many: the entry count; whether lists of that many entries hold the diagram, and
+// lists of one less; a sum over its values at every list of bits; and, within random sets, the greatest utility and 1, and a sum over the
+// states that have it.
+use diagrams::Made;
 use task::bytes::le32;
 ghost use mathlib.Core.Path.{_≡_};
 ghost use mathlib.Core.Bool.{true};
 ghost use Prim.Native.Nat.{_+_, _≤_, _<_};
 ghost use lib.ListN.{length};
-ghost use Rattle.diagrams.specs.Store.{Store};
+ghost use Rattle.diagrams.specs.Tree.{meetT};
+ghost use Rattle.diagrams.specs.Store.{table, tree, Store};
+ghost use Rattle.diagrams.specs.Memo.{MakesWith};
 ghost use Rattle.task.specs.Check.{accepted};
 ghost use Rattle.utility.specs.Reading.{nodes};
+ghost use Rattle.utility_cases.specs.Ready.{Ready, Goes};
 
 // The entries lent.
 const LENT: usize = 512;
+
+// The numbers of a long memo.
+const MEMO: usize = 8192;
+
+// The random sets that each task is tried with.
+const SETS: u32 = 8;
+
+// The modulus and the multiplier of the random numbers (Lehmer's generator).
+const PRIME: u64 = 2147483647;
+
+const FACTOR: u64 = 48271;
 
 // The bytes of a header.
 const HEADER: usize = 28;
@@ -61,16 +77,24 @@ fn leaf(bit: &[u32], low: &[u32], high: &[u32], name: u32, state: u64) -> u32 {
     0
 }
 
-// A sum over where every list of n bits leads, at most 12.
-fn checksum(bit: &[u32], low: &[u32], high: &[u32], name: u32, n: usize) -> u64 {
+// The number of lists of n bits, or of 12 where n is more.
+fn size(n: usize) -> u64
+    ensures { λ r. ⌜ (0 < r) × (r < 8192) ⌝ }
+{
     let mut end: u64 = 1;
     let mut k = 0;
     while k < n {
-        if k < 12 {
-            end = end % 65536 * 2;
+        if end < 4096 {
+            end *= 2;
         }
         k += 1;
     }
+    end
+}
+
+// A sum over where every list of n bits leads, at most 12.
+fn checksum(bit: &[u32], low: &[u32], high: &[u32], name: u32, n: usize) -> u64 {
+    let end = size(n);
     let mut sum: u64 = 0;
     let mut state: u64 = 0;
     while state < end {
@@ -80,7 +104,125 @@ fn checksum(bit: &[u32], low: &[u32], high: &[u32], name: u32, n: usize) -> u64 
     sum
 }
 
-// What a cube leaves of all states: the greatest utility there and 1, 0 where nothing is left, and a sum over the states that have it.
+// The random number after x.
+fn draw(x: u64) -> u64
+    ensures { λ r. ⌜ r < 2147483647 ⌝ }
+{
+    x % PRIME * FACTOR % PRIME
+}
+
+// An operation drawn by x: a union, one time in three a difference.
+fn operation(x: u64) -> u32
+    ensures { λ r. ⌜ (1 ≤ r) × (r ≤ 3) ⌝ }
+{
+    if x / 65536 % 3 == 0 {
+        return 2;
+    }
+    1
+}
+
+// The states that meet a cube.
+fn cube(
+    bit: &mut [u32],
+    low: &mut [u32],
+    high: &mut [u32],
+    heads: &mut [u32],
+    chain: &mut [u32],
+    memo: &mut [u32],
+    count: usize,
+    care: u64,
+    value: u64,
+) -> Made
+    requires { ⌜ Ready (table (now bit) (now low) (now high) (now heads) (now chain) count) (now memo) 1 ⌝ }
+    ensures { λ r. ⌜ MakesWith (table (now (bit .entry)) (now (low .entry)) (now (high .entry)) (now (heads .entry)) (now (chain .entry)) count) (table (now (bit .exit)) (now (low .exit)) (now (high .exit)) (now (heads .exit)) (now (chain .exit)) (r .count)) (now (memo .exit)) r (meetT 64 0 care value (tree (table (now (bit .entry)) (now (low .entry)) (now (high .entry)) (now (heads .entry)) (now (chain .entry)) count) 1)) ⌝ }
+{
+    cubes::demand(bit, low, high, heads, chain, memo, count, care, value, 1)
+}
+
+// The set a with a random cube joined to it or taken from it; there are so many states.
+fn change(
+    bit: &mut [u32],
+    low: &mut [u32],
+    high: &mut [u32],
+    heads: &mut [u32],
+    chain: &mut [u32],
+    memo: &mut [u32],
+    count: usize,
+    states: u64,
+    a: u32,
+    x: u64,
+) -> Made
+    requires { ⌜ Ready (table (now bit) (now low) (now high) (now heads) (now chain) count) (now memo) a ⌝ }
+    requires { ⌜ 0 < states ⌝ }
+    ensures { λ r. ⌜ Goes (table (now (bit .exit)) (now (low .exit)) (now (high .exit)) (now (heads .exit)) (now (chain .exit)) (r .count)) (now (memo .exit)) r ⌝ }
+{
+    let y = draw(x);
+    let c = cube(
+        bit,
+        low,
+        high,
+        heads,
+        chain,
+        memo,
+        count,
+        x % states,
+        y % states,
+    );
+    if c.full {
+        return c;
+    }
+    diagrams::apply(
+        bit,
+        low,
+        high,
+        heads,
+        chain,
+        memo,
+        c.count,
+        operation(y),
+        a,
+        c.name,
+    )
+}
+
+// A random set: no state or every state, by turns, and then changed by so many random cubes. The lists are cleared.
+fn random_set(
+    bit: &mut [u32],
+    low: &mut [u32],
+    high: &mut [u32],
+    heads: &mut [u32],
+    chain: &mut [u32],
+    memo: &mut [u32],
+    states: u64,
+    cubes: u32,
+    seed: u64,
+) -> Made
+    requires { ⌜ Ready (table (now bit) (now low) (now high) (now heads) (now chain) 0) (now memo) 1 ⌝ }
+    requires { ⌜ 0 < states ⌝ }
+    ensures { λ r. ⌜ Goes (table (now (bit .exit)) (now (low .exit)) (now (high .exit)) (now (heads .exit)) (now (chain .exit)) (r .count)) (now (memo .exit)) r ⌝ }
+{
+    let mut name = cubes % 2;
+    let mut entries = 0;
+    let mut x = seed;
+    let mut k: u32 = 0;
+    while k < cubes {
+        let r = change(bit, low, high, heads, chain, memo, entries, states, name, x);
+        if r.full {
+            return r;
+        }
+        name = r.name;
+        entries = r.count;
+        x = draw(draw(x));
+        k += 1;
+    }
+    Made {
+        name,
+        count: entries,
+        full: false,
+    }
+}
+
+// Within a random set: the greatest utility and 1, 0 where it is empty, and a sum over the states that have it.
 fn within(
     bit: &mut [u32],
     low: &mut [u32],
@@ -94,19 +236,15 @@ fn within(
     ucount: usize,
     u: u32,
     n: usize,
-    care: u64,
-    value: u64,
+    cubes: u32,
+    seed: u64,
 )
     requires { ⌜ Store (nodes (now ubit) (now ulow) (now uhigh) ucount) × (u < ucount + 2) ⌝ }
     requires { ⌜ (length (now low) ≡ length (now bit)) × (length (now high) ≡ length (now bit)) × (length (now bit) ≤ 1048576) ⌝ }
 {
     diagrams::clear(heads);
     diagrams::clear(memo);
-    let a = cubes::demand(bit, low, high, heads, chain, memo, 0, care, value, 1);
-    if a.full {
-        return;
-    }
-    let b = diagrams::apply(bit, low, high, heads, chain, memo, a.count, 2, 1, a.name);
+    let b = random_set(bit, low, high, heads, chain, memo, size(n), cubes, seed);
     if b.full {
         return;
     }
@@ -146,16 +284,58 @@ fn within(
     show(checksum(bit, low, high, r.name, n));
 }
 
+// The same within sets of no cube, one cube and so on.
+fn within_sets(
+    bit: &mut [u32],
+    low: &mut [u32],
+    high: &mut [u32],
+    heads: &mut [u32],
+    chain: &mut [u32],
+    memo: &mut [u32],
+    ubit: &[u32],
+    ulow: &[u32],
+    uhigh: &[u32],
+    ucount: usize,
+    u: u32,
+    n: usize,
+    seed: u64,
+)
+    requires { ⌜ Store (nodes (now ubit) (now ulow) (now uhigh) ucount) × (u < ucount + 2) ⌝ }
+    requires { ⌜ (length (now low) ≡ length (now bit)) × (length (now high) ≡ length (now bit)) × (length (now bit) ≤ 1048576) ⌝ }
+{
+    let x = draw(seed);
+    let mut cubes: u32 = 0;
+    while cubes < SETS {
+        within(
+            bit,
+            low,
+            high,
+            heads,
+            chain,
+            memo,
+            ubit,
+            ulow,
+            uhigh,
+            ucount,
+            u,
+            n,
+            cubes,
+            draw(x + cubes as u64),
+        );
+        cubes += 1;
+    }
+}
+
 // Whether lists of n entries hold the diagram, with a memo of m numbers.
 fn fits(file: &[u8], n: usize, m: usize) -> bool
-    requires { ⌜ (accepted (now file) ≡ true) × (n ≤ 512) × (m ≤ 512) ⌝ }
+    requires { ⌜ (accepted (now file) ≡ true) × (n ≤ 512) × (m ≤ 8192) ⌝ }
 {
     let mut bit = [0u32; LENT];
     let mut low = [0u32; LENT];
     let mut high = [0u32; LENT];
     let mut heads = [0u32; LENT];
     let mut chain = [0u32; LENT];
-    let mut memo = [0u32; LENT];
+    let mut memo = [0u32; MEMO];
     let r = building::build(
         file,
         &mut bit[..n],
@@ -170,7 +350,7 @@ fn fits(file: &[u8], n: usize, m: usize) -> bool
 
 // 1 where lists of n entries hold the diagram, else 0; with a memo of m numbers.
 fn show_fit(file: &[u8], n: usize, m: usize)
-    requires { ⌜ (accepted (now file) ≡ true) × (n ≤ 512) × (m ≤ 512) ⌝ }
+    requires { ⌜ (accepted (now file) ≡ true) × (n ≤ 512) × (m ≤ 8192) ⌝ }
 {
     if fits(file, n, m) {
         show(1);
@@ -179,7 +359,7 @@ fn show_fit(file: &[u8], n: usize, m: usize)
     }
 }
 
-// All that is shown of an accepted file.
+// All that is shown of an accepted file, with memo lists of m numbers.
 fn run(
     file: &[u8],
     ubit: &mut [u32],
@@ -191,8 +371,10 @@ fn run(
     heads: &mut [u32],
     chain: &mut [u32],
     memo: &mut [u32],
+    m: usize,
+    seed: u64,
 )
-    requires { ⌜ accepted (now file) ≡ true ⌝ }
+    requires { ⌜ (accepted (now file) ≡ true) × (m ≤ 8192) ⌝ }
     requires { ⌜ (length (now ulow) ≡ length (now ubit)) × (length (now uhigh) ≡ length (now ubit)) × (length (now ubit) ≡ 512) ⌝ }
     requires { ⌜ (length (now low) ≡ length (now bit)) × (length (now high) ≡ length (now bit)) × (length (now bit) ≤ 1048576) ⌝ }
 {
@@ -205,10 +387,10 @@ fn run(
     }
     let n = task::coding::bits(file);
     show(r.count as u64);
-    show_fit(file, r.count, 1);
-    show_fit(file, r.count - 1, 0);
+    show_fit(file, r.count, m);
+    show_fit(file, r.count - 1, m);
     show(checksum(ubit, ulow, uhigh, r.name, n));
-    within(
+    within_sets(
         bit,
         low,
         high,
@@ -221,45 +403,14 @@ fn run(
         r.count,
         r.name,
         n,
-        0,
-        0,
-    );
-    within(
-        bit,
-        low,
-        high,
-        heads,
-        chain,
-        memo,
-        ubit,
-        ulow,
-        uhigh,
-        r.count,
-        r.name,
-        n,
-        1,
-        1,
-    );
-    within(
-        bit,
-        low,
-        high,
-        heads,
-        chain,
-        memo,
-        ubit,
-        ulow,
-        uhigh,
-        r.count,
-        r.name,
-        n,
-        6,
-        2,
+        seed,
     );
 }
 
-// A line for a file.
-fn case(file: &[u8]) {
+// A line for a file, with memo lists of m numbers.
+fn case(file: &[u8], m: usize, seed: u64)
+    requires { ⌜ m ≤ 8192 ⌝ }
+{
     if task::check::accepted(file) {
         let mut ubit = [0u32; LENT];
         let mut ulow = [0u32; LENT];
@@ -269,7 +420,7 @@ fn case(file: &[u8]) {
         let mut high = [0u32; LENT];
         let mut heads = [0u32; LENT];
         let mut chain = [0u32; LENT];
-        let mut memo = [0u32; LENT];
+        let mut memo = [0u32; MEMO];
         run(
             file,
             &mut ubit[..],
@@ -280,7 +431,9 @@ fn case(file: &[u8]) {
             &mut high[..],
             &mut heads[..],
             &mut chain[..],
-            &mut memo[..],
+            &mut memo[..m],
+            m,
+            seed,
         );
     }
     io::write_all(1, b"\n");
@@ -292,6 +445,7 @@ fn main() {
     let text = &buffer[..n];
     let mut at = 0;
     let mut left = n;
+    let mut seed: u64 = 1;
     while HEADER <= left {
         let len = le32(text, at + 24);
         if len < HEADER {
@@ -301,8 +455,12 @@ fn main() {
             return;
         }
         let end = at + len;
-        case(&text[at..end]);
+        let file = &text[at..end];
+        case(file, 0, seed);
+        case(file, 1, seed);
+        case(file, MEMO, seed);
         at = end;
         left -= len;
+        seed = draw(seed);
     }
 }

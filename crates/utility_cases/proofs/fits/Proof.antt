@@ -33,7 +33,7 @@ array-borrow-prefix-memo : tie.Need-array-borrow-prefix-memo
 array-borrow-prefix-memo c = c .before .before .before .before .before .before .pre .2
 
 slice-aggregate-build-6 : tie.Need-slice-aggregate-build-6
-slice-aggregate-build-6 c = part-long _ 512 _ (c .before .before .before .before .before .before .before .pre .2) refl
+slice-aggregate-build-6 c = part-long _ 8192 _ (c .before .before .before .before .before .before .before .pre .2) refl
 
 build-requires : tie.Need-build-requires
 build-requires c κs =

@@ -7,10 +7,10 @@ use Rattle.utility_cases.proofs.main.Statement.{statement}
 use Rattle.utility_cases.proofs.main.Tie as tie
 
 abbrev Inv-loop : tie.InvT-loop
-Inv-loop n text at₀ left₀ at left = (at + left ≡ n) × (n ≡ length text) × (n ≤ 4096)
+Inv-loop n text at₀ left₀ seed₀ at left seed = (at + left ≡ n) × (n ≡ length text) × (n ≤ 4096)
 
 abbrev μ-loop : tie.MeasureT-loop
-μ-loop n text at₀ left₀ at left = left
+μ-loop n text at₀ left₀ seed₀ at left seed = left
 
 buffer-requires : tie.Need-buffer-requires Inv-loop μ-loop
 buffer-requires c κs = tt
@@ -47,28 +47,37 @@ returns-2 c = tt
 add-end : tie.Need-add-end Inv-loop μ-loop
 add-end c = omega arith
 
-sub-case : tie.Need-sub-case Inv-loop μ-loop
-sub-case c = omega arith
+sub-file : tie.Need-sub-file Inv-loop μ-loop
+sub-file c = omega arith
 
-part-case-start : tie.Need-part-case-start Inv-loop μ-loop
-part-case-start c = omega arith
+part-file-start : tie.Need-part-file-start Inv-loop μ-loop
+part-file-start c = omega arith
 
-part-case-end : tie.Need-part-case-end Inv-loop μ-loop
-part-case-end c = omega arith
+part-file-end : tie.Need-part-file-end Inv-loop μ-loop
+part-file-end c = omega arith
 
 case-requires : tie.Need-case-requires Inv-loop μ-loop
-case-requires c κs = tt
+case-requires c κs = omega arith
+
+case-requires-2 : tie.Need-case-requires-2 Inv-loop μ-loop
+case-requires-2 c κs = omega arith
+
+case-requires-3 : tie.Need-case-requires-3 Inv-loop μ-loop
+case-requires-3 c κs = omega arith
+
+draw-requires : tie.Need-draw-requires Inv-loop μ-loop
+draw-requires c κs = tt
 
 loop-less : tie.Need-loop-less Inv-loop μ-loop
 loop-less c = omega arith
 
 loop-again : tie.Need-loop-again Inv-loop μ-loop
 loop-again c =
-    let i = c .before .before .before .before .before .before .loop .inv in
+    let i = c .before .before .before .before .before .before .before .before .before .loop .inv in
     (omega (arith, i .0), i .1, i .2)
 
 returns-3 : tie.Need-returns-3 Inv-loop μ-loop
 returns-3 c = tt
 
 pub main-spec : {M : Type 1} → statement M
-main-spec = tie.close (tie.spec Inv-loop μ-loop buffer-requires slice-aggregate-read-full read-full-requires array-share-prefix-buffer slice-aggregate-text loop-holds add-le32 le32-requires returns returns-2 add-end sub-case part-case-start part-case-end case-requires loop-less loop-again returns-3)
+main-spec = tie.close (tie.spec Inv-loop μ-loop buffer-requires slice-aggregate-read-full read-full-requires array-share-prefix-buffer slice-aggregate-text loop-holds add-le32 le32-requires returns returns-2 add-end sub-file part-file-start part-file-end case-requires case-requires-2 case-requires-3 draw-requires loop-less loop-again returns-3)
