@@ -1,18 +1,33 @@
 -- What lists that pass 21's test say of their entries and names; and that lists of which all this holds pass it.
 use Prim.Native.Nat.{ℕ, _+_, _-_, _≤_, _<_}
 use mathlib.Core.Path.{_≡_, refl, sym}
-use mathlib.Core.Bool.{true}
+use mathlib.Core.Bool.{Bool, true, false, true≢false}
 use mathlib.Core.Logic.{⊎-elim}
 use mathlib.Core.List.{List}
 use native.Mathlib.Omega.{arith}
 use native.Mathlib.Decide.{decLt}
 use lib.Dec.{ltb, leb}
 use lib.ListN.{length, getD}
-use borrow.Author.Tests.{lt-ltb, le-ltb, le-leb, ltb-true, leb-true}
+use borrow.Author.Tests.{lt-ltb, le-ltb, le-leb, ltb-true, ltb-false, leb-true, eqb-true, not-false}
 use Rattle.planning.specs.Tests.{_and_, _or_}
 use Rattle.planning.proofs.Guards.{and-go, or-go, or-stop, and-both, or-either}
 use Rattle.planning.proofs.Scan.{every-at, every-all}
-use Rattle.lent.specs.Lists.{nameRight, childRight, entryRight, entriesRight, levelRight, namesRight, listed}
+use Rattle.lent.specs.Lists.{listsWrong, nameRight, childRight, entryRight, entriesRight, levelRight, namesRight, listed}
+
+-- ---- the lengths
+-- neither test holds where their disjunction does not
+or-neither : (a b : Bool) → (a or b) ≡ false → (a ≡ false) × (b ≡ false)
+unfolding _or_
+or-neither true b h = absurd (true≢false h)
+or-neither false b h = (refl, h)
+
+-- three lists that pass 12 are equally long, and not too long
+pub equal-lengths : (l m n : ℕ) → listsWrong l m n ≡ false → (l ≡ m) × (m ≡ n) × (l ≤ 1048576)
+unfolding listsWrong
+equal-lengths l m n h =
+    let p = or-neither _ _ h in
+    let q = or-neither _ _ (p .1) in
+    (eqb-true _ _ (not-false _ (p .0)), eqb-true _ _ (not-false _ (q .0)), ltb-false _ _ (q .1))
 
 -- ---- a child
 -- a child of the entry k is 0, 1 or an earlier entry
