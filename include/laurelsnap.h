@@ -93,7 +93,9 @@ struct laurelsnap_found {
 };
 
 /* The search for the best plan (refusals 1 to 15). Lists are lent as pointers and lengths: the level list; the three node lists; the
-   three utility lists; the working lists heads, chain and memo, of any length; and the plan, 16 bits a step. */
+   three utility lists; the working lists heads, chain and memo, of any length; and the plan, 16 bits a step. The working lists decide
+   the time alone: give heads and chain as many numbers as the node lists have entries, and memo four times as many and 4,100 more (a
+   shorter one than 4,104 is not used). */
 struct laurelsnap_found laurelsnap_search(
     const uint8_t *file, size_t file_length, uint32_t *levels, size_t levels_length, uint32_t *bit, size_t bit_length,
     uint32_t *low, size_t low_length, uint32_t *high, size_t high_length, uint32_t *utility_bit, size_t utility_bit_length,

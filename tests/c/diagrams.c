@@ -8,7 +8,7 @@
 #include <stdlib.h>
 #include <string.h>
 
-enum { BITS = 12, STATES = 1 << BITS, SETS = 41, ENTRIES = 1024, WORK = 4096, GUARD = 0x5a5a5a5a };
+enum { BITS = 12, STATES = 1 << BITS, SETS = 41, ENTRIES = 1024, WORK = 4096, MEMO = 8192, GUARD = 0x5a5a5a5a };
 
 /* An operation: 0 union, 1 difference, 2 intersection, 3 a bit forgotten, 4 a cube demanded; the sets that it is on. */
 struct step {
@@ -76,7 +76,7 @@ static void choose(int bits)
     }
 }
 
-static uint32_t bit[ENTRIES], low[ENTRIES], high[ENTRIES], heads[WORK], chain[WORK], memo[WORK];
+static uint32_t bit[ENTRIES], low[ENTRIES], high[ENTRIES], heads[WORK], chain[WORK], memo[MEMO];
 
 static int fail(const char *what, int bits, size_t n, int t)
 {
@@ -119,7 +119,7 @@ static int run(int bits, size_t n, size_t h, size_t c, size_t m)
 
 int main(void)
 {
-    static const size_t lengths[] = {0, 1, 7, WORK};
+    static const size_t lengths[] = {0, 1, 7, WORK}, memos[] = {0, 4104, 4111, MEMO};
     size_t sequences = 0, runs = 0, most = 0;
     for (int bits = 1; bits <= BITS; bits++)
         for (uint64_t round = 1; round <= 3; round++, sequences++) {
@@ -133,7 +133,7 @@ int main(void)
                         if (bits > 6 && (i != j || j != k))
                             continue;
                         runs += 2;
-                        if (run(bits, n, lengths[i], lengths[j], lengths[k]) || run(bits, n ? n - 1 : 0, lengths[i], lengths[j], lengths[k]))
+                        if (run(bits, n, lengths[i], lengths[j], memos[k]) || run(bits, n ? n - 1 : 0, lengths[i], lengths[j], memos[k]))
                             return 1;
                     }
         }

@@ -21,7 +21,8 @@ pub struct Lists {
 
 /// Levels for the greatest bound, and steps for the longest plan within it.
 const LEVELS: usize = 4_096;
-/// Words of the memo for each node entry.
+/// Words of the memo's header, and for each node entry.
+const MEMO_HEADER: usize = 4_100;
 const MEMO_WORDS: usize = 8;
 
 impl Lists {
@@ -37,7 +38,7 @@ impl Lists {
             utility_high: vec![0; utility],
             heads: vec![0; nodes.max(utility)],
             chain: vec![0; nodes.max(utility)],
-            memo: vec![0; MEMO_WORDS * nodes.max(utility)],
+            memo: vec![0; MEMO_HEADER + MEMO_WORDS * nodes.max(utility)],
             plan: vec![0; LEVELS],
         }
     }

@@ -14,10 +14,10 @@ use Rattle.task.specs.Decode.{sizes, termIn, taskOf}
 use Rattle.task.specs.Check.{accepted}
 use Rattle.diagrams.specs.Tree.{Tree, none, all, same, mkT, named, trees, valueEnd, diagram}
 use Rattle.diagrams.specs.Store.{Table, table, tree, Store, Done, Makes}
+use Rattle.diagrams.specs.Memo.{Memo}
 use Rattle.diagrams.specs.Sets.{MakesAll, MakesAllWith}
 use Rattle.diagrams.specs.declared.Made.{Made}
 use Rattle.diagrams.proofs.Trees.{mkT-same}
-use Rattle.diagrams.proofs.Memos.{memo-empty}
 use Rattle.diagrams.proofs.Empty.{store-empty}
 use Rattle.diagrams.proofs.Sequence.{AllInside, all-length, with-one, with-idle, with-full, with-then, all-one, all-full, all-then}
 use Rattle.utility.specs.Stages.{plusTerm, stagesFrom, stages, entryCount, utilityTree}
@@ -140,11 +140,11 @@ module _ (f : List ℕ) (right : accepted f ≡ true) (bit low high heads cut ch
     zero-full e s′ = built s′ r (all-full cleared s₁ s′ r (stage f 0 ∷ []) (stagesAfter f (terms f) 0) (stage f 0) (stage f (terms f)) (all-one cleared s₁ r (stage f 0) zero-made) e)
 
     module _ (e : r .full ≡ false) where
-      pub zero-ready : (memo : List ℕ) (k : ℕ) → memo ≡ replicate k 0 → Ready f s₁ memo (r .name) 0
+      pub zero-ready : (memo : List ℕ) → Memo s₁ memo → Ready f s₁ memo (r .name) 0
       unfolding sumTo
-      zero-ready memo k z =
+      zero-ready memo m =
           let d = zero-made .done e in
-          record { right = right; store = d .store; slots = rw z (memo-empty s₁ k); below = d .within; means = d .means; last = omega arith; sums = λ σ. omega arith }
+          record { right = right; store = d .store; slots = m; below = d .within; means = d .means; last = omega arith; sums = λ σ. omega arith }
 
       pub whole : length (s₁ .bit) ≡ length bit → (s′ : Table) (memo′ : List ℕ) (q : Made) → MakesAllWith s₁ s′ memo′ q (stagesAfter f (terms f - 0) 0) (stage f (terms f)) → Builds came s′ q (taskOf f)
       whole len s′ memo′ q a =

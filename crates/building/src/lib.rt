@@ -29,6 +29,7 @@ fn add_term(
 {
     let cube = task::model::term_cube(file, t);
     let weight = task::model::term_weight(file, t) as u32;
+    diagrams::widen(memo, count);
     let stamp = diagrams::stamp(memo);
     adding::add(
         bit,
@@ -104,7 +105,7 @@ pub fn build(
     ensures { λ r. ⌜ Builds (table (now (bit .entry)) (now (low .entry)) (now (high .entry)) (now (heads .entry)) (now (chain .entry)) 0) (table (now (bit .exit)) (now (low .exit)) (now (high .exit)) (now (heads .exit)) (now (chain .exit)) (r .count)) r (taskOf (now (file .entry))) ⌝ }
 {
     diagrams::clear(heads);
-    diagrams::clear(memo);
+    diagrams::begin(memo);
     let r = diagrams::mk(bit, low, high, heads, chain, 0, 64, 0, 1);
     if r.full {
         return r;

@@ -11,6 +11,7 @@ pub mod Applies
 pub mod Canonical
 pub mod Ending
 pub mod Memos
+pub mod Rows
 pub mod Binary
 pub mod Forgets
 pub mod Meets

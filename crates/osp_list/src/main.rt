@@ -17,7 +17,7 @@ const NODES: usize = 1024;
 
 const UTILITIES: usize = 512;
 
-const MEMO: usize = 8192;
+const MEMO: usize = 16384;
 
 const STEPS: usize = 4096;
 

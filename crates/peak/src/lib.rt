@@ -12,7 +12,8 @@ pub struct Peak {
     pub cost: usize,
 }
 
-// The lists name the levels and, by the root, the utility diagram. The counts are those of the entries in use.
+// The lists name the levels and, by the root, the utility diagram. The counts are those of the entries in use. One stamp serves all levels,
+// since they share nodes.
 pub fn highest(
     file: &[u8],
     levels: &[u32],
@@ -32,7 +33,8 @@ pub fn highest(
     ensures { λ r. ⌜ Peaks (taskOf (now (file .entry))) (nodes (now (bit .entry)) (now (low .entry)) (now (high .entry)) count) (now (memo .exit)) r ⌝ }
 {
     let b = bound(file);
-    let mut top = greatest::greatest(
+    let stamp = diagrams::stamp(memo);
+    let mut top = greatest::most(
         bit,
         low,
         high,
@@ -42,6 +44,7 @@ pub fn highest(
         memo,
         count,
         ucount,
+        stamp,
         levels[0],
         root,
     );
@@ -49,7 +52,7 @@ pub fn highest(
     let mut g = 0;
     while g < b {
         g += 1;
-        let m = greatest::greatest(
+        let m = greatest::most(
             bit,
             low,
             high,
@@ -59,6 +62,7 @@ pub fn highest(
             memo,
             count,
             ucount,
+            stamp,
             levels[g],
             root,
         );

@@ -136,7 +136,7 @@ fn cube(
     requires { ⌜ Ready (table (now bit) (now low) (now high) (now heads) (now chain) count) (now memo) 1 ⌝ }
     ensures { λ r. ⌜ MakesWith (table (now (bit .entry)) (now (low .entry)) (now (high .entry)) (now (heads .entry)) (now (chain .entry)) count) (table (now (bit .exit)) (now (low .exit)) (now (high .exit)) (now (heads .exit)) (now (chain .exit)) (r .count)) (now (memo .exit)) r (meetT 64 0 care value (tree (table (now (bit .entry)) (now (low .entry)) (now (high .entry)) (now (heads .entry)) (now (chain .entry)) count) 1)) ⌝ }
 {
-    cubes::demand(bit, low, high, heads, chain, memo, count, care, value, 1)
+    cubes::demand(bit, low, high, heads, chain, memo, count, 0, care, value, 1)
 }
 
 // The set a with a random cube joined to it or taken from it; there are so many states.
@@ -243,7 +243,7 @@ fn within(
     requires { ⌜ (length (now low) ≡ length (now bit)) × (length (now high) ≡ length (now bit)) × (length (now bit) ≤ 1048576) ⌝ }
 {
     diagrams::clear(heads);
-    diagrams::clear(memo);
+    diagrams::begin(memo);
     let b = random_set(bit, low, high, heads, chain, memo, size(n), cubes, seed);
     if b.full {
         return;

@@ -5,7 +5,6 @@ use mathlib.Core.Path.{_∙_}
 use denote.Ref.{now}
 use lib.ListN.{length}
 use Rattle.diagrams.specs.Store.{table}
-use Rattle.diagrams.proofs.Memos.{memo-empty}
 use Rattle.diagrams.proofs.Empty.{store-empty}
 use Rattle.utility.proofs.Pairs.{store-bare, memo-bare, memo-full}
 use Rattle.utility_cases.proofs.within.Statement.{statement}
@@ -14,8 +13,8 @@ use Rattle.utility_cases.proofs.within.Tie as tie
 clear-requires : tie.Need-clear-requires
 clear-requires c κs = tt
 
-clear-requires-2 : tie.Need-clear-requires-2
-clear-requires-2 c κs = tt
+begin-requires : tie.Need-begin-requires
+begin-requires c κs = tt
 
 size-requires : tie.Need-size-requires
 size-requires c κs = tt
@@ -24,9 +23,9 @@ random-set-requires : tie.Need-random-set-requires
 random-set-requires c κs =
     let a = c .before .before .before .before .before .before .before .before .before .before .before .before .before .before .before .before .before .before .before .before .before .before .before .before in
     let h = c .before .before .before .before .before .before .before .before .before .before .before .before .before .clear in
-    let m = c .before .before .before .before .before .before .before .before .before .clear2 in
+    let m = c .before .before .before .before .before .before .before .before .before .begin in
     let s = table (now (a .args .bit)) (now (a .args .low)) (now (a .args .high)) (h .last .0) (now (a .args .chain)) 0 in
-    (record { store = rw (h .ensures) (store-empty (now (a .args .bit)) (now (a .args .low)) (now (a .args .high)) (now (a .args .chain)) (length (now (a .args .heads))) (a .pre .1 .0) (a .pre .1 .1) (a .pre .1 .2)); within = omega arith; right = rw (m .ensures) (memo-empty s (length (now (a .args .memo)))) }, c .size .ensures .0)
+    (record { store = rw (h .ensures) (store-empty (now (a .args .bit)) (now (a .args .low)) (now (a .args .high)) (now (a .args .chain)) (length (now (a .args .heads))) (a .pre .1 .0) (a .pre .1 .1) (a .pre .1 .2)); within = omega arith; right = m .ensures .for s }, c .size .ensures .0)
 
 same-length : tie.Need-same-length
 same-length c = c .before .before .before .before .before .before .before .before .before .before .before .before .before .random-set .kept .0
@@ -44,7 +43,7 @@ same-length-5 : tie.Need-same-length-5
 same-length-5 c = c .before .before .before .before .before .before .before .before .before .before .before .before .before .random-set .kept .1 .1 .1 .1 .0
 
 same-length-6 : tie.Need-same-length-6
-same-length-6 c = c .before .before .before .before .before .before .before .before .before .before .before .before .before .random-set .kept .1 .1 .1 .1 .1 .0 ∙ c .before .before .before .before .before .before .before .before .before .before .before .before .before .before .before .before .before .before .before .before .before .before .before .clear2 .kept .0
+same-length-6 c = c .before .before .before .before .before .before .before .before .before .before .before .before .before .random-set .kept .1 .1 .1 .1 .1 .0 ∙ c .before .before .before .before .before .before .before .before .before .before .before .before .before .before .before .before .before .before .before .before .before .before .before .begin .kept .0
 
 returns : tie.Need-returns
 returns c = tt
@@ -79,7 +78,7 @@ same-length-11 : tie.Need-same-length-11
 same-length-11 c = c .before .before .before .before .before .before .before .before .before .before .before .before .before .before .before .before .before .before .before .before .before .before .random-set .kept .1 .1 .1 .1 .0
 
 same-length-12 : tie.Need-same-length-12
-same-length-12 c = c .before .before .before .before .greatest .kept .1 .1 .1 .1 .1 .1 .0 ∙ c .before .before .before .before .before .before .before .before .before .before .before .before .before .before .before .before .before .before .before .before .before .before .random-set .kept .1 .1 .1 .1 .1 .0 ∙ c .before .before .before .before .before .before .before .before .before .before .before .before .before .before .before .before .before .before .before .before .before .before .before .before .before .before .before .before .before .before .before .before .clear2 .kept .0
+same-length-12 c = c .before .before .before .before .greatest .kept .1 .1 .1 .1 .1 .1 .0 ∙ c .before .before .before .before .before .before .before .before .before .before .before .before .before .before .before .before .before .before .before .before .before .before .random-set .kept .1 .1 .1 .1 .1 .0 ∙ c .before .before .before .before .before .before .before .before .before .before .before .before .before .before .before .before .before .before .before .before .before .before .before .before .before .before .before .before .before .before .before .before .begin .kept .0
 
 returns-2 : tie.Need-returns-2
 returns-2 c = tt
@@ -118,10 +117,10 @@ same-length-17 : tie.Need-same-length-17
 same-length-17 c = c .before .before .before .before .before .before .before .before .before .before .before .before .before .before .before .before .before .having .kept .1 .1 .1 .1 .0 ∙ c .before .before .before .before .before .before .before .before .before .before .before .before .before .before .before .before .before .before .before .before .before .before .before .before .before .before .before .before .before .before .before .before .before .before .before .before .before .before .before .before .before .before .before .before .before .before .random-set .kept .1 .1 .1 .1 .0
 
 same-length-18 : tie.Need-same-length-18
-same-length-18 c = c .before .before .before .before .before .before .before .before .before .before .before .before .before .before .before .before .before .having .kept .1 .1 .1 .1 .1 .0 ∙ c .before .before .before .before .before .before .before .before .before .before .before .before .before .before .before .before .before .before .before .before .before .before .before .before .before .before .before .before .greatest .kept .1 .1 .1 .1 .1 .1 .0 ∙ c .before .before .before .before .before .before .before .before .before .before .before .before .before .before .before .before .before .before .before .before .before .before .before .before .before .before .before .before .before .before .before .before .before .before .before .before .before .before .before .before .before .before .before .before .before .before .random-set .kept .1 .1 .1 .1 .1 .0 ∙ c .before .before .before .before .before .before .before .before .before .before .before .before .before .before .before .before .before .before .before .before .before .before .before .before .before .before .before .before .before .before .before .before .before .before .before .before .before .before .before .before .before .before .before .before .before .before .before .before .before .before .before .before .before .before .before .before .clear2 .kept .0
+same-length-18 c = c .before .before .before .before .before .before .before .before .before .before .before .before .before .before .before .before .before .having .kept .1 .1 .1 .1 .1 .0 ∙ c .before .before .before .before .before .before .before .before .before .before .before .before .before .before .before .before .before .before .before .before .before .before .before .before .before .before .before .before .greatest .kept .1 .1 .1 .1 .1 .1 .0 ∙ c .before .before .before .before .before .before .before .before .before .before .before .before .before .before .before .before .before .before .before .before .before .before .before .before .before .before .before .before .before .before .before .before .before .before .before .before .before .before .before .before .before .before .before .before .before .before .random-set .kept .1 .1 .1 .1 .1 .0 ∙ c .before .before .before .before .before .before .before .before .before .before .before .before .before .before .before .before .before .before .before .before .before .before .before .before .before .before .before .before .before .before .before .before .before .before .before .before .before .before .before .before .before .before .before .before .before .before .before .before .before .before .before .before .before .before .before .before .begin .kept .0
 
 returns-3 : tie.Need-returns-3
 returns-3 c = tt
 
 pub within-spec : {M : Type 1} → statement M
-within-spec = tie.close (tie.spec clear-requires clear-requires-2 size-requires random-set-requires same-length same-length-2 same-length-3 same-length-4 same-length-5 same-length-6 returns greatest-requires cast-show show-requires same-length-7 same-length-8 same-length-9 same-length-10 same-length-11 same-length-12 returns-2 sub-having having-requires checksum-requires show-requires-2 same-length-13 same-length-14 same-length-15 same-length-16 same-length-17 same-length-18 returns-3)
+within-spec = tie.close (tie.spec clear-requires begin-requires size-requires random-set-requires same-length same-length-2 same-length-3 same-length-4 same-length-5 same-length-6 returns greatest-requires cast-show show-requires same-length-7 same-length-8 same-length-9 same-length-10 same-length-11 same-length-12 returns-2 sub-having having-requires checksum-requires show-requires-2 same-length-13 same-length-14 same-length-15 same-length-16 same-length-17 same-length-18 returns-3)
