@@ -1,5 +1,5 @@
 /*
- * Laurelsnap for C: the file check and the walk of a given plan.
+ * Laurelsnap for C: the file check, the walk of a given plan, the search for the best plan, and the question what a state costs at least.
  *
  * Link with the static library that `rt staticlib supervisor` writes, target/staticlib/libsupervisor.a.
  *
@@ -7,7 +7,8 @@
  *   A byte string is given by the address of its first byte and its length. The address is never null, not even where the
  *   length is 0: give the address of any object then. The bytes are only read, and only during the call; nothing is kept,
  *   nothing is allocated, and calls from several threads do not disturb each other. Any bytes will do: every input gets an
- *   answer. A plan is two bytes for each step, the operator's number, low byte first.
+ *   answer. A walked plan is two bytes for each step, the operator's number, low byte first. Lists are lent in the same way, as address
+ *   and number of entries; two lent lists never share memory.
  *
  * Answers
  *   `number` is 0 for success, else a refusal's number (enum laurelsnap_refusal). The two values are
@@ -34,7 +35,7 @@ struct laurelsnap_answer {
     uint64_t second;
 };
 
-/* The refusals in order. The file check finds 1 to 10, the walk 1 to 10 and 16 to 19. */
+/* The refusals in order. The file check finds 1 to 10; the walk those and 16 to 19, the search 1 to 15, the question 1 to 12, 20 and 21. */
 enum laurelsnap_refusal {
     LAURELSNAP_OK = 0,
     LAURELSNAP_SHORT_FILE = 1,         /* file under 28 bytes */

@@ -7,7 +7,6 @@ pub struct Answer {
     pub second: u64,
 }
 
-#[cfg(feature = "search")]
 #[repr(C)]
 pub struct Found {
     pub number: u64,
@@ -21,14 +20,11 @@ pub struct Found {
     pub steps: u64,
 }
 
+#[rustfmt::skip]
 extern "C" {
     pub fn laurelsnap_check(file: *const u8, length: usize) -> Answer;
     pub fn laurelsnap_walk(file: *const u8, file_length: usize, plan: *const u8, plan_length: usize) -> Answer;
-}
 
-#[cfg(feature = "search")]
-#[rustfmt::skip]
-extern "C" {
     pub fn laurelsnap_search(
         file: *const u8, file_length: usize,
         levels: *mut u32, levels_length: usize,

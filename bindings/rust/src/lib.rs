@@ -3,10 +3,8 @@
 //! A task is the bytes of a BPT1 file. Every input gets an answer: a result, or a refusal with the planner's two numbers.
 
 mod ffi;
-#[cfg(feature = "search")]
 mod search;
 
-#[cfg(feature = "search")]
 pub use search::{question, search, Found, Lists, Place};
 
 /// A numbered refusal. The value is the record's number for 7, 9 and 10, the step's for 17, 18 and 19, and else 0.
