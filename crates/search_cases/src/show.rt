@@ -1,15 +1,7 @@
 // Writes a search's answer on a line behind the case's name.
 use search::answer::Listing;
 use search::answer::Searched;
-
-// A refusal's number and value.
-fn refused(number: u64, value: u64) {
-    io::write_all(1, b"refused ");
-    io::print_decimal(1, number);
-    io::write_all(1, b" ");
-    io::print_decimal(1, value);
-    io::write_all(1, b"\n");
-}
+use stand::refused;
 
 // A word and two numbers.
 fn pair(word: &[u8], a: usize, between: &[u8], b: usize) {

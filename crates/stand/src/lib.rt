@@ -1,4 +1,4 @@
-// The stand's task files P and Q, and the parts to make others from: written to lent bytes that are zero before.
+// The stand's task files P and Q, and the parts to make others from, written to lent bytes that are zero before; and a refusal's line.
 ghost use Prim.Native.Nat.{_<_, _≤_};
 ghost use lib.ListN.{length};
 
@@ -113,4 +113,13 @@ pub fn plain(file: &mut [u8]) {
     operator(file, 32, b"\x02\x00\x02\x01\x00\x01\x01\x00", b"\x01\x03");
     operator(file, 68, b"\x01\x00\x00\x01", b"\x00\x00");
     copy(file, 104, b"\x07\x00\x02\x00\x00\x01\x01\x03");
+}
+
+// Writes a refusal's number and value, and ends the line.
+pub fn refused(number: u64, value: u64) {
+    io::write_all(1, b"refused ");
+    io::print_decimal(1, number);
+    io::write_all(1, b" ");
+    io::print_decimal(1, value);
+    io::write_all(1, b"\n");
 }

@@ -1,18 +1,10 @@
 // Writes the answers, one to a line behind the case's name.
+use stand::refused;
 use task::check::Checked;
 use task::check::check;
 use walk::Fault;
 use walk::Walked;
 use walk::walk;
-
-// A refusal's number and value.
-fn refused(number: u64, value: u64) {
-    io::write_all(1, b"refused ");
-    io::print_decimal(1, number);
-    io::write_all(1, b" ");
-    io::print_decimal(1, value);
-    io::write_all(1, b"\n");
-}
 
 // The file check's answer.
 pub fn checked(name: &[u8], file: &[u8]) {
