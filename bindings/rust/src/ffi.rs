@@ -1,5 +1,7 @@
 //! The static library's functions, as include/laurelsnap.h declares them.
 
+use crate::Found;
+
 #[repr(C)]
 pub struct Answer {
     pub number: u64,
@@ -8,16 +10,10 @@ pub struct Answer {
 }
 
 #[repr(C)]
-pub struct Found {
+pub struct Report {
     pub number: u64,
     pub value: u64,
-    pub utility: u64,
-    pub ceiling: u64,
-    pub cost: u64,
-    pub bound: u64,
-    pub nodes: u64,
-    pub entries: u64,
-    pub steps: u64,
+    pub found: Found,
 }
 
 #[rustfmt::skip]
@@ -38,7 +34,7 @@ extern "C" {
         chain: *mut u32, chain_length: usize,
         memo: *mut u32, memo_length: usize,
         plan: *mut u16, plan_length: usize,
-    ) -> Found;
+    ) -> Report;
 
     /// Success: `first` is the least cost and `second` 1, or both are 0 for "not reached".
     pub fn laurelsnap_question(

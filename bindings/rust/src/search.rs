@@ -44,8 +44,9 @@ impl Lists {
     }
 }
 
-/// What a search reports.
+/// What a search reports, in the order of the library's answer.
 #[derive(Clone, Copy, Debug, PartialEq, Eq)]
+#[repr(C)]
 pub struct Found {
     pub utility: u64,
     pub ceiling: u64,
@@ -73,7 +74,7 @@ pub enum Place {
 /// The search for the best plan (refusals 1 to 15).
 pub fn search(file: &[u8], lists: &mut Lists) -> Result<Found, Refusal> {
     // SAFETY: the pointers and lengths are those of a slice and of different vectors, lent for the call.
-    let found = unsafe {
+    let report = unsafe {
         ffi::laurelsnap_search(
             file.as_ptr(),
             file.len(),
@@ -101,18 +102,10 @@ pub fn search(file: &[u8], lists: &mut Lists) -> Result<Found, Refusal> {
             lists.plan.len(),
         )
     };
-    if found.number != 0 {
-        return Err(Refusal { number: found.number, value: found.value });
+    if report.number != 0 {
+        return Err(Refusal { number: report.number, value: report.value });
     }
-    Ok(Found {
-        utility: found.utility,
-        ceiling: found.ceiling,
-        cost: found.cost,
-        bound: found.bound,
-        nodes: found.nodes,
-        entries: found.entries,
-        steps: found.steps,
-    })
+    Ok(report.found)
 }
 
 /// The question about one state, a byte per variable, over lists that a search has left with so many nodes (refusals 1 to 12, 20
