@@ -1,7 +1,7 @@
 /*
  * Random sequences of operations on sets of states of up to 12 bits, each compared with a table of all states: the members of every set, the
  * number of entries with the number of different cofactors of the tables, and the answer "full" in lists that are just long enough and in
- * lists that are one entry too short; with working lists of length 0, 1, 7 and 4,096.
+ * lists that are one entry too short; with working lists of length 0, 1, 7 and 4,096, and memos of 0, 4,104, 4,111 and 8,192.
  */
 #include "diagrams.h"
 #include <stdio.h>
