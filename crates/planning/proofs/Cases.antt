@@ -3,21 +3,21 @@ use Prim.Native.Nat.{ℕ, zero, suc}
 use mathlib.Core.Path.{_≡_, refl, subst}
 use mathlib.Core.List.{List, [], _∷_}
 use native.Mathlib.Omega.{arith}
-use Rattle.planning.specs.Tests.{_and_, _or_, pick}
-use Rattle.planning.specs.Model.{Task, valueOf, holds, apply, utility, ceiling, operatorAt, canApply, next, applicable, end, cost, worth}
-use Rattle.planning.specs.Best.{Costly, Best}
+use Rattle.planning.specs.Connectives.{_and_, _or_, pick}
+use Rattle.planning.specs.Model.{Task, valueOf, holds, apply, stateUtility, ceiling, operatorAt, canApply, next, applicable, end, cost, utility}
+use Rattle.planning.specs.Best.{PositiveCosts, Best}
 use Rattle.planning.specs.Exhaustive.{prefix, beginning, sequences, noLater, better, choose, best}
 use Rattle.planning.specs.Cases.{fact, P, Q, Row}
 use Rattle.planning.proofs.Theorems.{best-exists}
 
-pub P-costly : (b : ℕ) → Costly (P b)
+pub P-costly : (b : ℕ) → PositiveCosts (P b)
 unfolding P operatorAt
 P-costly b zero h = omega arith
 P-costly b (suc zero) h = omega arith
 P-costly b (suc (suc zero)) h = omega arith
 P-costly b (suc (suc (suc o))) h = absurd (omega arith)
 
-pub Q-costly : (b : ℕ) → Costly (Q b)
+pub Q-costly : (b : ℕ) → PositiveCosts (Q b)
 unfolding Q operatorAt
 Q-costly b zero h = omega arith
 Q-costly b (suc zero) h = omega arith
@@ -25,7 +25,7 @@ Q-costly b (suc (suc zero)) h = omega arith
 Q-costly b (suc (suc (suc zero))) h = omega arith
 Q-costly b (suc (suc (suc (suc o)))) h = absurd (omega arith)
 
-row : (t : Task) (p : List ℕ) (u top c : ℕ) → Costly t → best t ≡ p → worth t p ≡ u → ceiling (t .terms) ≡ top → cost t p ≡ c → Row t p u top c
+row : (t : Task) (p : List ℕ) (u top c : ℕ) → PositiveCosts t → best t ≡ p → utility t p ≡ u → ceiling (t .terms) ≡ top → cost t p ≡ c → Row t p u top c
 row t p u top c pos e f g h = record { plan = subst (Best t) e (best-exists t pos); found = e; utility = f; most = g; costs = h }
 
 -- task and bound; plan, utility of the ceiling, cost
@@ -36,7 +36,7 @@ pub plan-rows :
     × Row (Q 3) [] 0 7 0
     × Row (Q 4) (1 ∷ 2 ∷ []) 7 7 4
     × Row (Q 5) (1 ∷ 2 ∷ []) 7 7 4
-unfolding _and_ _or_ pick valueOf holds apply utility ceiling operatorAt canApply next applicable end cost worth prefix beginning sequences noLater better choose best fact P Q
+unfolding _and_ _or_ pick valueOf holds apply stateUtility ceiling operatorAt canApply next applicable end cost utility prefix beginning sequences noLater better choose best fact P Q
 plan-rows = (
   row (P 0) [] 0 3 0 (P-costly 0) refl refl refl refl,
   row (P 1) (1 ∷ []) 2 3 1 (P-costly 1) refl refl refl refl,

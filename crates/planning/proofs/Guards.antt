@@ -6,7 +6,7 @@ use mathlib.Core.Bool.{not, Bool, true, false, false≢true}
 use mathlib.Core.Logic.{_⊎_, inl, inr}
 use lib.Dec.{leb, ltb, eqb}
 use borrow.Author.Tests.{not-true, not-false, lt-ltb, le-ltb, le-leb, lt-leb, eq-eqb, ne-eqb}
-use Rattle.planning.specs.Tests.{_and_, _or_, pick}
+use Rattle.planning.specs.Connectives.{_and_, _or_, pick}
 
 -- ---- what a test `if !r` tells, of a call's result r that equals t
 pub wrong : (r t : Bool) → r ≡ t → not r ≡ true → t ≡ false

@@ -6,7 +6,7 @@ use mathlib.Core.Logic.{⊎-elim}
 use native.Mathlib.Omega.{arith}
 use native.Mathlib.Nat.{sub-zero, sub-eq-zero-of-le, eq-or-lt-of-le}
 use native.Mathlib.Numerals.{add-one}
-use Rattle.planning.specs.Tests.{_and_, pick}
+use Rattle.planning.specs.Connectives.{_and_, pick}
 use Rattle.planning.specs.Scan.{firstBad, every}
 use Rattle.planning.proofs.Guards.{and-both}
 

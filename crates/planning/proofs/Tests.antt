@@ -6,7 +6,7 @@ use mathlib.Core.Logic.{_⊎_, inl, inr, _↔_}
 use native.Mathlib.Decide.{decLt}
 use native.Mathlib.Omega.{arith}
 use lib.Dec.{T}
-use Rattle.planning.specs.Tests.{_and_, _or_, pick}
+use Rattle.planning.specs.Connectives.{_and_, _or_, pick}
 
 pub T-true : (b : Bool) → T b ↔ (b ≡ true)
 T-true true = (λ h. refl, λ h. tt)

@@ -8,7 +8,7 @@ use native.Mathlib.Omega.{arith, pow-step}
 use lib.Pow.{shr-shr}
 use lib.Dec.{eqb}
 use lib.ListN.{length, getD}
-use Rattle.planning.specs.Tests.{pick}
+use Rattle.planning.specs.Connectives.{pick}
 use Rattle.planning.specs.Coding.{word}
 
 -- ---- bits of numbers

@@ -2,7 +2,7 @@
 use Prim.Native.Nat.{ℕ}
 use mathlib.Core.Path.{_≡_}
 use mathlib.Core.List.{List, [], _∷_}
-use Rattle.planning.specs.Model.{Fact, Task, ceiling, cost, worth}
+use Rattle.planning.specs.Model.{Fact, Task, ceiling, cost, utility}
 use Rattle.planning.specs.Best.{Best}
 use Rattle.planning.specs.Exhaustive.{best}
 
@@ -42,6 +42,6 @@ Q b = record {
 pub record Row (t : Task) (p : List ℕ) (u top c : ℕ) : Type 0 where
   pub plan : Best t p
   pub found : best t ≡ p
-  pub utility : worth t p ≡ u
+  pub utility : utility t p ≡ u
   pub most : ceiling (t .terms) ≡ top
   pub costs : cost t p ≡ c

@@ -4,7 +4,7 @@ use mathlib.Core.List.{List, [], _∷_}
 use lib.ListN.{length}
 use Rattle.planning.specs.Model.{Term, Task, operatorAt}
 use Rattle.planning.specs.Coding.{Valid, Facts}
-use Rattle.planning.specs.Best.{Costly}
+use Rattle.planning.specs.Best.{PositiveCosts}
 
 -- the facts of each term are used facts of the task
 abbrev pub Terms : List ℕ → List Term → Type 0
@@ -17,4 +17,4 @@ pub record Good (t : Task) : Type 0 where
   pub pres : (o : ℕ) → o < length (t .operators) → Facts (t .sizes) 0 (operatorAt (t .operators) o .pre)
   pub effs : (o : ℕ) → o < length (t .operators) → Facts (t .sizes) 0 (operatorAt (t .operators) o .eff)
   pub terms : Terms (t .sizes) (t .terms)
-  pub costs : Costly t
+  pub costs : PositiveCosts t

@@ -1,4 +1,4 @@
-pub mod Tests
+pub mod Connectives
 pub mod Model
 pub mod Coding
 pub mod Best

@@ -2,7 +2,7 @@
 use Prim.Native.Nat.{ℕ, zero, suc}
 use mathlib.Core.Bool.{Bool, true}
 use mathlib.Core.List.{List, [], _∷_}
-use Rattle.planning.specs.Tests.{_and_, pick}
+use Rattle.planning.specs.Connectives.{_and_, pick}
 
 -- the first of the n numbers from i at which the test fails, or the number after them
 unfoldable pub firstBad : (ℕ → Bool) → ℕ → ℕ → ℕ

@@ -7,7 +7,7 @@ use mathlib.Core.List.{List}
 use lib.ListN.{length}
 use Rattle.planning.specs.Coding.{bits, code, word}
 use Rattle.planning.proofs.Guards.{pick-yes, pick-no}
-use Rattle.lent.specs.Lists.{levelsShort, listsWrong, listed}
+use Rattle.lent_lists.specs.Lists.{levelsShort, listsWrong, listed}
 use Rattle.diagrams.specs.Tree.{trees}
 use Rattle.task.specs.Format.{bound}
 use Rattle.task.specs.Decode.{sizes}

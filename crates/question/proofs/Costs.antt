@@ -7,7 +7,7 @@ use native.Mathlib.Omega.{arith}
 use native.Mathlib.Nat.{sub-zero, sub-eq-zero-of-le}
 use native.Mathlib.Numerals.{add-one}
 use lib.ListN.{getD}
-use Rattle.planning.specs.Tests.{pick}
+use Rattle.planning.specs.Connectives.{pick}
 use Rattle.planning.specs.Coding.{word}
 use Rattle.planning.proofs.Scan.{left}
 use Rattle.planning.proofs.Words.{word-bit, bit-eqb}

@@ -6,7 +6,7 @@ use mathlib.Core.Bool.{Bool, true, false, true≢false}
 use mathlib.Core.List.{List}
 use native.Mathlib.Omega.{arith}
 use native.Mathlib.Decide.{decLt}
-use Rattle.planning.specs.Tests.{pick}
+use Rattle.planning.specs.Connectives.{pick}
 use Rattle.planning.specs.Model.{Task}
 use Rattle.planning.specs.Coding.{code}
 use Rattle.planning.specs.Best.{Cheapest}
@@ -15,9 +15,9 @@ use Rattle.planning.proofs.Tests.{T-true}
 use Rattle.planning.proofs.Guards.{pick-yes, pick-no}
 use Rattle.planning.proofs.Theorems.{cheapest-unique}
 use Rattle.diagrams.specs.Tree.{Tree, trees, member}
-use Rattle.symbolic.specs.Bits.{bitTask}
-use Rattle.symbolic.specs.Levels.{level}
-use Rattle.symbolic.proofs.Demands.{demand-2}
+use Rattle.search_theory.specs.Bits.{bitTask}
+use Rattle.search_theory.specs.Levels.{level}
+use Rattle.search_theory.proofs.Demands.{demand-2}
 use Rattle.task.specs.Format.{bound}
 use Rattle.task.specs.Decode.{sizes, taskOf}
 use Rattle.task.specs.Check.{accepted}

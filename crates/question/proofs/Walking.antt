@@ -6,8 +6,8 @@ use mathlib.Core.List.{List}
 use native.Mathlib.Omega.{arith}
 use lib.ListN.{length}
 use borrow.Author.Tests.{ltb-false}
-use Rattle.lent.specs.Lists.{levelsShort, listsWrong, listed}
-use Rattle.lent.proofs.Passing.{equal-lengths, listed-is}
+use Rattle.lent_lists.specs.Lists.{levelsShort, listsWrong, listed}
+use Rattle.lent_lists.proofs.Passing.{equal-lengths, listed-is}
 use Rattle.question.specs.Levelled.{Levelled}
 
 long-enough : (n b : ℕ) → levelsShort n b ≡ false → b + 1 ≤ n

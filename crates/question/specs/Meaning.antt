@@ -7,10 +7,10 @@ use lib.ListN.{length, getD}
 use Rattle.planning.specs.Model.{Task}
 use Rattle.planning.specs.Coding.{bits}
 use Rattle.planning.specs.Best.{Cheapest}
-use Rattle.lent.specs.Lists.{levelsShort, listsWrong, listed}
+use Rattle.lent_lists.specs.Lists.{levelsShort, listsWrong, listed}
 use Rattle.diagrams.specs.Tree.{named, trees}
-use Rattle.symbolic.specs.Bits.{bitTask}
-use Rattle.symbolic.specs.Levels.{level}
+use Rattle.search_theory.specs.Bits.{bitTask}
+use Rattle.search_theory.specs.Levels.{level}
 use Rattle.question.specs.Question.{Reply, refused, least, notReached}
 
 -- the lists pass 11, 12 and 21, and name the levels of the task: so a successful search leaves them

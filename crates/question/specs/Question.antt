@@ -4,10 +4,10 @@ use mathlib.Core.Bool.{Bool}
 use mathlib.Core.List.{List}
 use lib.Dec.{eqb, ltb}
 use lib.ListN.{length, getD}
-use Rattle.planning.specs.Tests.{_and_, pick}
+use Rattle.planning.specs.Connectives.{_and_, pick}
 use Rattle.planning.specs.Scan.{every}
 use Rattle.planning.specs.Coding.{bits, code}
-use Rattle.lent.specs.Lists.{levelsShort, listsWrong, listed}
+use Rattle.lent_lists.specs.Lists.{levelsShort, listsWrong, listed}
 use Rattle.diagrams.specs.Tree.{Tree, named, trees, member}
 use Rattle.task.specs.Format.{bound}
 use Rattle.task.specs.Decode.{sizes}

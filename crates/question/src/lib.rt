@@ -1,8 +1,8 @@
 // The question about one state: the least cost at which it is reached, by the lists that an earlier search left.
 use diagrams::member::member;
-use lent::levels_short;
-use lent::listed;
-use lent::lists_wrong;
+use lent_lists::levels_short;
+use lent_lists::listed;
+use lent_lists::lists_wrong;
 use task::bytes::byte;
 use task::check::Checked;
 use task::check::check;

@@ -6,9 +6,9 @@ ghost use mathlib.Core.List.{_++_};
 ghost use Prim.Native.Nat.{_≤_};
 ghost use lib.ListN.{length, take, drop};
 ghost use Rattle.task.specs.Decode.{taskOf};
-ghost use Rattle.symbolic.specs.Peak.{bestCost};
-ghost use Rattle.symbolic.specs.Plan.{planOf};
-ghost use Rattle.recovery.specs.Wants.{Wants};
+ghost use Rattle.search_theory.specs.Optimum.{bestCost};
+ghost use Rattle.search_theory.specs.Plan.{planOf};
+ghost use Rattle.search_recovery.specs.Wants.{Wants};
 ghost use Rattle.search.specs.Hands.{Hands};
 
 // A plan has no more steps than its cost, which is at most 4,095.
@@ -42,7 +42,7 @@ fn hand_over(
     requires { ⌜ length (planOf (taskOf (now file))) ≤ length (now steps) ⌝ }
     ensures { λ r. ⌜ Hands (planOf (taskOf (now (file .entry)))) figures (now (plan .entry)) (now (plan .exit)) r ⌝ }
 {
-    let n = recovery::recover(
+    let n = search_recovery::recover(
         file,
         wanted,
         bit,

@@ -3,7 +3,7 @@ use mathlib.Core.Path.{_≡_, refl}
 use mathlib.Core.Bool.{true}
 use mathlib.Core.List.{List}
 use Prim.Native.Nat.{ℕ}
-use Rattle.planning.specs.Tests.{_and_, _or_, pick}
+use Rattle.planning.specs.Connectives.{_and_, _or_, pick}
 use Rattle.planning.specs.Scan.{firstBad, every, tab}
 use Rattle.planning.specs.Model.{Task}
 use Rattle.planning.specs.Coding.{wide, width, bits}

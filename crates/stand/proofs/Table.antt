@@ -5,16 +5,16 @@ use mathlib.Core.Path.{_≡_, refl, sym, ap, subst, _∙_}
 use mathlib.Core.Bool.{true, false}
 use mathlib.Core.List.{List, [], _∷_, _++_}
 use lib.ListN.{length, replicate}
-use Rattle.planning.specs.Tests.{pick, _or_}
+use Rattle.planning.specs.Connectives.{pick, _or_}
 use Rattle.planning.specs.Model.{Task}
 use Rattle.planning.specs.Best.{Best}
 use Rattle.planning.specs.Cases.{P, Q}
 use Rattle.planning.proofs.Cases.{plan-rows}
 use Rattle.task.specs.Check.{checkOf}
 use Rattle.task.specs.Decode.{taskOf}
-use Rattle.lent.specs.Lists.{levelsShort, listsWrong}
-use Rattle.symbolic.specs.Plan.{planOf}
-use Rattle.symbolic.proofs.Table as sets
+use Rattle.lent_lists.specs.Lists.{levelsShort, listsWrong}
+use Rattle.search_theory.specs.Plan.{planOf}
+use Rattle.search_theory.proofs.Table as sets
 use Rattle.walk.specs.Cases.{header, operator, fileP, fileQ, fileOf}
 use Rattle.walk.specs.Walk.{walkOf, reached, refused as stopped}
 use Rattle.walk.proofs.Cases.{checks, walks}

@@ -10,7 +10,7 @@ use lib.ListN.{length, take, drop, length-drop}
 use lib.Seq.{length-take-le}
 use lib.Dec.{leb, ltb, eqb}
 use borrow.Author.Tests.{ltb-true, leb-true, eqb-true, eqb-false, lt-ltb, le-leb, ne-eqb}
-use Rattle.planning.specs.Tests.{_and_, _or_, pick}
+use Rattle.planning.specs.Connectives.{_and_, _or_, pick}
 use Rattle.planning.specs.Coding.{bits}
 use Rattle.task.specs.Bytes.{part}
 use Rattle.planning.specs.Scan.{firstBad, every}

@@ -9,7 +9,7 @@ use lib.ListN.{length, take, drop, length-drop, List·getD-eq-default}
 use lib.Seq.{take-all}
 use lib.Dec.{eqb}
 use borrow.Author.Tests.{le-leb, lt-leb, eq-eqb, ne-eqb}
-use Rattle.planning.specs.Tests.{pick}
+use Rattle.planning.specs.Connectives.{pick}
 use Rattle.planning.proofs.Guards.{pick-yes, pick-no, eq-eqb-l, ne-eqb-l, le-leb-l, lt-leb-l}
 use Rattle.task.specs.Bytes.{byte, part}
 use Rattle.task.specs.Format.{effects}

@@ -9,8 +9,8 @@ use native.Mathlib.Numerals.{add-one}
 use lib.ListN.{length, getD, set, take, length-set}
 use lib.Seq.{take-suc-set, take-all, set-out}
 use lib.Dec.{leb, ltb, eqb}
-use Rattle.planning.specs.Tests.{_and_, pick}
-use Rattle.planning.specs.Model.{valueOf, holds, apply, utility}
+use Rattle.planning.specs.Connectives.{_and_, pick}
+use Rattle.planning.specs.Model.{valueOf, holds, apply, stateUtility}
 use Rattle.task.specs.Bytes.{byte}
 use Rattle.planning.specs.Scan.{every, tab}
 use Rattle.task.specs.Format.{terms}
@@ -68,17 +68,17 @@ module _ (s₀ fs : List ℕ) (n : ℕ) where
 -- ---- utility: what the terms from t on add
 module _ (f s : List ℕ) (n : ℕ) where
   abbrev pub SumTo : ℕ → ℕ → Type 0
-  SumTo sum t = utility (tab (termIn f) n 0) s ≡ sum + utility (tab (termIn f) (n - t) t) s
+  SumTo sum t = stateUtility (tab (termIn f) n 0) s ≡ sum + stateUtility (tab (termIn f) (n - t) t) s
 
   pub sum-none : SumTo 0 0
   sum-none = rw (sub-zero, zero-add)
 
   pub sum-more : (sum t more : ℕ) → t < n → SumTo sum t → more ≡ gain f s t → SumTo (sum + more) (t + 1)
-  unfolding utility gain
+  unfolding stateUtility gain
   sum-more sum t more h inv e = inv ∙ rw (tab-more (termIn f) n t h, e) (omega arith)
 
-  pub sum-done : (sum t : ℕ) → n ≤ t → SumTo sum t → sum ≡ utility (tab (termIn f) n 0) s
-  unfolding utility
+  pub sum-done : (sum t : ℕ) → n ≤ t → SumTo sum t → sum ≡ stateUtility (tab (termIn f) n 0) s
+  unfolding stateUtility
   sum-done sum t h inv = sym (inv ∙ rw (tab-done (termIn f) n t h, add-zero))
 
 -- ---- the start: the values written so far

@@ -4,7 +4,7 @@ use mathlib.Core.Bool.{Bool}
 use mathlib.Core.List.{List, []}
 use lib.ListN.{length}
 use lib.Dec.{leb, ltb, eqb}
-use Rattle.planning.specs.Tests.{_and_, _or_, pick}
+use Rattle.planning.specs.Connectives.{_and_, _or_, pick}
 use Rattle.planning.specs.Coding.{bits}
 use Rattle.task.specs.Limits.{headerBytes, mostFileBytes, variableBytes, operatorBytes, termBytes, mostVariables, mostOperators, mostTerms, mostBound, leastValues, mostValues, leastCost, mostCost, operatorPlaces, termPlaces, mostBits}
 use Rattle.task.specs.Bytes.{byte}

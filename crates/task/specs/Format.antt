@@ -3,7 +3,7 @@ use Prim.Native.Nat.{ℕ, _+_, _*_}
 use mathlib.Core.List.{List, [], _∷_}
 use lib.ListN.{length, drop}
 use lib.Dec.{eqb}
-use Rattle.planning.specs.Tests.{pick}
+use Rattle.planning.specs.Connectives.{pick}
 use Rattle.task.specs.Limits.{variableBytes, operatorBytes, termBytes, factsAt, effectsAt, operatorPlaces, termPlaces}
 use Rattle.task.specs.Bytes.{byte, le16, le32, part}
 

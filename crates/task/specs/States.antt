@@ -3,7 +3,7 @@ use Prim.Native.Nat.{ℕ}
 use mathlib.Core.Bool.{Bool}
 use mathlib.Core.List.{List}
 use lib.Dec.{eqb}
-use Rattle.planning.specs.Tests.{pick}
+use Rattle.planning.specs.Connectives.{pick}
 use Rattle.planning.specs.Model.{valueOf, holds}
 use Rattle.task.specs.Format.{factVariable, factValue}
 use Rattle.task.specs.Decode.{termIn}

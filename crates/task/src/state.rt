@@ -12,7 +12,7 @@ ghost use mathlib.Core.Path.{_≡_};
 ghost use Prim.Native.Nat.{_<_};
 ghost use lib.ListN.{length, set};
 ghost use Rattle.task.specs.Bytes.{Reads};
-ghost use Rattle.planning.specs.Model.{holds, apply, utility};
+ghost use Rattle.planning.specs.Model.{holds, apply, stateUtility};
 ghost use Rattle.planning.specs.Scan.{tab};
 ghost use Rattle.task.specs.Format.{startValue};
 ghost use Rattle.task.specs.Decode.{facts, taskOf};
@@ -90,7 +90,7 @@ fn gain(file: &[u8], state: &[u8], t: usize) -> usize
 
 // The utility of the state: the sum of the weights of the terms that hold in it.
 pub fn utility(file: &[u8], state: &[u8]) -> usize
-    ensures { λ r. ⌜ r ≡ utility (taskOf (now (file .entry)) .terms) (now (state .entry)) ⌝ }
+    ensures { λ r. ⌜ r ≡ stateUtility (taskOf (now (file .entry)) .terms) (now (state .entry)) ⌝ }
 {
     let n = terms(file);
     let mut sum: usize = 0;

@@ -8,13 +8,12 @@ use native.Mathlib.Omega.{arith}
 use native.Mathlib.Nat.{div-div-eq-div-mul, pow-suc}
 use lib.Dec.{ltb, leb, eqb}
 use borrow.Author.Tests.{lt-ltb, le-ltb, eq-eqb, eqb-true, eqb-false}
-use Rattle.planning.specs.Tests.{_and_, _or_, pick}
+use Rattle.planning.specs.Connectives.{_and_, _or_, pick}
 use Rattle.planning.specs.Coding.{sameBit, fitsWords}
-use Rattle.diagrams.specs.Tree.{Tree, none, all, node, mkT, Canon, valueEnd, diagram}
+use Rattle.diagrams.specs.Tree.{Tree, none, all, node, mkT, Canon, lowT, highT, valueEnd, diagram}
 use Rattle.diagrams.proofs.Trees.{test, mkT-same, mkT-node}
 use Rattle.diagrams.proofs.Canonical.{canon-mkT}
 use Rattle.diagrams.proofs.Diagrams.{canon-diagram, canon-valueEnd, diagram-same}
-use Rattle.utility.specs.Values.{lowAt, highAt}
 use Rattle.utility.specs.Adding.{plusT, digit, lowIn, highIn, addT}
 use Rattle.utility.proofs.Shapes.{equal, low-mkT, high-mkT}
 
@@ -104,7 +103,7 @@ module _ (care value w n k : ℕ) (f : List Bool → ℕ) (le : k + suc n ≤ 64
   H = diagram valueEnd n (suc k) (λ σ. f (true ∷ σ))
 
   -- the two sides of the tree
-  add-sides : addT n (suc k) care value w L ≡ diagram valueEnd n (suc k) (λ σ. f (false ∷ σ) + pick (meets (suc k) care value σ) w 0) → addT n (suc k) care value w H ≡ diagram valueEnd n (suc k) (λ σ. f (true ∷ σ) + pick (meets (suc k) care value σ) w 0) → mkT k (cond (lowIn care value k) (addT n (suc k) care value w (lowAt k (mkT k L H))) (lowAt k (mkT k L H))) (cond (highIn care value k) (addT n (suc k) care value w (highAt k (mkT k L H))) (highAt k (mkT k L H))) ≡ diagram valueEnd (suc n) k (λ σ. f σ + pick (meets k care value σ) w 0)
+  add-sides : addT n (suc k) care value w L ≡ diagram valueEnd n (suc k) (λ σ. f (false ∷ σ) + pick (meets (suc k) care value σ) w 0) → addT n (suc k) care value w H ≡ diagram valueEnd n (suc k) (λ σ. f (true ∷ σ) + pick (meets (suc k) care value σ) w 0) → mkT k (cond (lowIn care value k) (addT n (suc k) care value w (lowT k (mkT k L H))) (lowT k (mkT k L H))) (cond (highIn care value k) (addT n (suc k) care value w (highT k (mkT k L H))) (highT k (mkT k L H))) ≡ diagram valueEnd (suc n) k (λ σ. f σ + pick (meets k care value σ) w 0)
   unfolding diagram
   add-sides el eh =
       let cl : Canon (suc k) L = canon-diagram valueEnd n (suc k) (λ σ. f (false ∷ σ)) (canon-valueEnd (suc k + n) (omega arith)) in
@@ -127,8 +126,8 @@ add-diagram care value w (suc n) k f h =
     (test (eqb (care / 2 ^ k) 0))
 
 -- the sides of an ordered tree have greater bits
-pub sides-canon : (k : ℕ) (t : Tree) → Canon k t → Canon (suc k) (lowAt k t) × Canon (suc k) (highAt k t)
-unfolding Canon lowAt highAt
+pub sides-canon : (k : ℕ) (t : Tree) → Canon k t → Canon (suc k) (lowT k t) × Canon (suc k) (highT k t)
+unfolding Canon lowT highT
 sides-canon k none c = (tt, tt)
 sides-canon k all c = (tt, tt)
 sides-canon k (node b l h) c =
@@ -150,8 +149,8 @@ canon-add care value w (suc m) k t c =
     (λ (e : eqb (care / 2 ^ k) 0 ≡ true). rw e (canon-plus w k t c))
     (λ (e : eqb (care / 2 ^ k) 0 ≡ false).
     rw e (canon-mkT k k _ _ (omega arith)
-    (canon-cond (suc k) (lowIn care value k) (addT m (suc k) care value w (lowAt k t)) (lowAt k t) (canon-add care value w m (suc k) (lowAt k t) (s .0)) (s .0))
-    (canon-cond (suc k) (highIn care value k) (addT m (suc k) care value w (highAt k t)) (highAt k t) (canon-add care value w m (suc k) (highAt k t) (s .1)) (s .1))))
+    (canon-cond (suc k) (lowIn care value k) (addT m (suc k) care value w (lowT k t)) (lowT k t) (canon-add care value w m (suc k) (lowT k t) (s .0)) (s .0))
+    (canon-cond (suc k) (highIn care value k) (addT m (suc k) care value w (highT k t)) (highT k t) (canon-add care value w m (suc k) (highT k t) (s .1)) (s .1))))
     (test (eqb (care / 2 ^ k) 0))
 
 same-sides : (k : ℕ) (t : Tree) (z l h : Bool) → cond z t (mkT k (cond l t t) (cond h t t)) ≡ t
@@ -163,12 +162,12 @@ same-sides k t false false false = mkT-same k t t refl
 
 -- the two sets without a node stay
 pub add-none : (care value w m k : ℕ) → addT m k care value w none ≡ none
-unfolding addT plusT lowAt highAt
+unfolding addT plusT lowT highT
 add-none care value w zero k = refl
 add-none care value w (suc m) k = rw (add-none care value w m (suc k)) (same-sides k none (eqb (care / 2 ^ k) 0) (lowIn care value k) (highIn care value k))
 
 pub add-all : (care value w m k : ℕ) → addT m k care value w all ≡ all
-unfolding addT plusT lowAt highAt
+unfolding addT plusT lowT highT
 add-all care value w zero k = refl
 add-all care value w (suc m) k = rw (add-all care value w m (suc k)) (same-sides k all (eqb (care / 2 ^ k) 0) (lowIn care value k) (highIn care value k))
 
@@ -192,4 +191,4 @@ add-enough care value w (suc m) zero k t e f = add-plain care value w (suc m) k 
 add-enough care value w (suc m) (suc n) k t e f =
     let e′ : care / 2 ^ (suc k + m) ≡ 0 = rw (shift k m) e in
     let f′ : care / 2 ^ (suc k + n) ≡ 0 = rw (shift k n) f in
-    rw (add-enough care value w m n (suc k) (lowAt k t) e′ f′, add-enough care value w m n (suc k) (highAt k t) e′ f′)
+    rw (add-enough care value w m n (suc k) (lowT k t) e′ f′, add-enough care value w m n (suc k) (highT k t) e′ f′)

@@ -2,7 +2,7 @@
 use Prim.Native.Nat.{ℕ}
 use mathlib.Core.Path.{_≡_, refl}
 use mathlib.Core.List.{[]}
-use Rattle.planning.specs.Tests.{_and_, pick}
+use Rattle.planning.specs.Connectives.{_and_, pick}
 use Rattle.planning.specs.Cases.{fact, P, Q}
 use Rattle.planning.specs.Coding.{wide, width, bits, offset, bin, sameBit, fits, lits, factLits, factsLits}
 use Rattle.diagrams.specs.Tree.{same, mkT, valueEnd, diagram, has, insert, grow, growAll}

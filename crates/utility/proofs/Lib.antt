@@ -3,5 +3,5 @@ pub mod Cases
 pub mod Shapes
 pub mod Adds
 pub mod Withins
-pub mod Worth
+pub mod Meaning
 pub mod Pairs

@@ -8,7 +8,7 @@ use native.Mathlib.Omega.{arith}
 use lib.ListN.{getD}
 use lib.Dec.{ltb}
 use borrow.Author.Tests.{ltb-true, ltb-false, eq-eqb, ne-eqb}
-use Rattle.diagrams.specs.Tree.{Tree, none, node, named, Canon}
+use Rattle.diagrams.specs.Tree.{Tree, none, node, named, Canon, lowT, highT}
 use Rattle.diagrams.specs.Store.{Table, tree, Store}
 use Rattle.diagrams.specs.Memo.{Memo}
 use Rattle.diagrams.specs.declared.Split.{Split}
@@ -17,7 +17,6 @@ use Rattle.diagrams.proofs.Entries.{tree-canon}
 use Rattle.diagrams.proofs.Applies.{lead}
 use Rattle.diagrams.proofs.Binary.{tree-inner}
 use Rattle.diagrams.proofs.Memos.{memo-extends}
-use Rattle.utility.specs.Values.{lowAt, highAt}
 use Rattle.utility.specs.Within.{withinT}
 use Rattle.utility.specs.Reading.{nodes, endOf, pairOf}
 use Rattle.utility.specs.declared.Ending.{Ending}
@@ -94,18 +93,18 @@ no-end ubit d e is kn =
 pub record Side (s : Table) (v a l h : ℕ) : Type 0 where
   pub low-le : l ≤ a
   pub high-le : h ≤ a
-  pub low-is : tree s l ≡ lowAt v (tree s a)
-  pub high-is : tree s h ≡ highAt v (tree s a)
+  pub low-is : tree s l ≡ lowT v (tree s a)
+  pub high-is : tree s h ≡ highT v (tree s a)
   pub order : Canon v (tree s a)
 
-flat-low : (s : Table) (v n : ℕ) → n < 2 → tree s n ≡ lowAt v (tree s n)
-unfolding named lowAt
+flat-low : (s : Table) (v n : ℕ) → n < 2 → tree s n ≡ lowT v (tree s n)
+unfolding named lowT
 flat-low s v zero lt = refl
 flat-low s v (suc zero) lt = refl
 flat-low s v (suc (suc n)) lt = absurd (omega arith)
 
-flat-high : (s : Table) (v n : ℕ) → n < 2 → tree s n ≡ highAt v (tree s n)
-unfolding named highAt
+flat-high : (s : Table) (v n : ℕ) → n < 2 → tree s n ≡ highT v (tree s n)
+unfolding named highT
 flat-high s v zero lt = refl
 flat-high s v (suc zero) lt = refl
 flat-high s v (suc (suc n)) lt = absurd (omega arith)
@@ -139,7 +138,7 @@ module _ (s : Table) (st : Store s) (a : ℕ) (la : a < s .count + 2) where
 
     -- the root has the bit v
     own : (v : ℕ) → v ≡ b → Side s v a l h
-    unfolding lowAt highAt Canon
+    unfolding lowT highT Canon
     own v e =
         let c : Canon 0 (node b (tree s l) (tree s h)) = rw inner at (tree-canon s st a la) in
         record {
@@ -152,7 +151,7 @@ module _ (s : Table) (st : Store s) (a : ℕ) (la : a < s .count + 2) where
 
     -- the root has a greater bit
     other : (v : ℕ) → v < b → Side s v a a a
-    unfolding lowAt highAt Canon
+    unfolding lowT highT Canon
     other v lt =
         let c : Canon 0 (node b (tree s l) (tree s h)) = rw inner at (tree-canon s st a la) in
         record {

@@ -8,44 +8,41 @@ use native.Mathlib.Omega.{arith}
 use lib.ListN.{length, getD, drop}
 use lib.Seq.{drop-cons, drop-length}
 use borrow.Author.Tests.{lt-ltb, le-ltb, eq-eqb, ne-eqb}
-use Rattle.diagrams.specs.Tree.{Tree, none, all, node, same, mkT, valueEnd, Canon, bitAt, diagram}
+use Rattle.diagrams.specs.Tree.{Tree, none, all, node, same, mkT, valueEnd, Canon, Under, lowT, highT, bitAt, diagram}
 use Rattle.diagrams.proofs.Trees.{test, no-both, same-true, same-refl, mkT-same, mkT-node}
-use Rattle.utility.specs.Values.{valueAt, Below, lowAt, highAt}
+use Rattle.search_theory.proofs.Bits.{under-mkT}
+use Rattle.utility.specs.Values.{valueAt}
 
 -- two trees are one or not
 pub equal : (t u : Tree) → (t ≡ u) ⊎ (t ≡ u → ⊥)
 equal t u = ⊎-elim (λ (e : same t u ≡ true). _⊎_.inl (same-true t u e)) (λ (e : same t u ≡ false). _⊎_.inr (λ q. no-both (subst (λ (x : Tree). same t x ≡ true) q (same-refl t)) e)) (test (same t u))
 
 -- a tree of greater bits is its own side
-pub low-self : (k : ℕ) (t : Tree) → Canon (suc k) t → lowAt k t ≡ t
-unfolding lowAt Canon
+pub low-self : (k : ℕ) (t : Tree) → Canon (suc k) t → lowT k t ≡ t
+unfolding lowT Canon
 low-self k none c = refl
 low-self k all c = refl
 low-self k (node b l h) c = rw (ne-eqb b k (omega (arith, c .0)))
 
-pub high-self : (k : ℕ) (t : Tree) → Canon (suc k) t → highAt k t ≡ t
-unfolding highAt Canon
+pub high-self : (k : ℕ) (t : Tree) → Canon (suc k) t → highT k t ≡ t
+unfolding highT Canon
 high-self k none c = refl
 high-self k all c = refl
 high-self k (node b l h) c = rw (ne-eqb b k (omega (arith, c .0)))
 
-pub low-mkT : (k : ℕ) (l h : Tree) → Canon (suc k) l → lowAt k (mkT k l h) ≡ l
-unfolding lowAt
+pub low-mkT : (k : ℕ) (l h : Tree) → Canon (suc k) l → lowT k (mkT k l h) ≡ l
+unfolding lowT
 low-mkT k l h c = ⊎-elim (λ (e : l ≡ h). rw (mkT-same k l h e) (low-self k l c)) (λ (n : l ≡ h → ⊥). rw (mkT-node k l h n, eq-eqb k k refl)) (equal l h)
 
-pub high-mkT : (k : ℕ) (l h : Tree) → Canon (suc k) h → highAt k (mkT k l h) ≡ h
-unfolding highAt
+pub high-mkT : (k : ℕ) (l h : Tree) → Canon (suc k) h → highT k (mkT k l h) ≡ h
+unfolding highT
 high-mkT k l h c = ⊎-elim (λ (e : l ≡ h). rw (mkT-same k l h e) (rw e (high-self k h c))) (λ (n : l ≡ h → ⊥). rw (mkT-node k l h n, eq-eqb k k refl)) (equal l h)
 
-pub below-more : (m n : ℕ) (t : Tree) → n ≤ m → Below n t → Below m t
-unfolding Below
-below-more m n none le b = tt
-below-more m n all le b = tt
-below-more m n (node c l h) le b = (omega (arith, b .0), below-more m n l le (b .1), below-more m n h le (b .2))
-
-pub below-mkT : (n k : ℕ) (l h : Tree) → k < n → Below n l → Below n h → Below n (mkT k l h)
-unfolding Below
-below-mkT n k l h lt bl bh = ⊎-elim (λ (e : l ≡ h). rw (mkT-same k l h e) bl) (λ (d : l ≡ h → ⊥). rw (mkT-node k l h d) (lt, bl, bh)) (equal l h)
+pub under-more : (m n : ℕ) (t : Tree) → n ≤ m → Under n t → Under m t
+unfolding Under
+under-more m n none le b = tt
+under-more m n all le b = tt
+under-more m n (node c l h) le b = (omega (arith, b .0), under-more m n l le (b .1), under-more m n h le (b .2))
 
 -- the value at a node made of two sides
 pub value-mkT : (k : ℕ) (l h : Tree) (σ : List Bool) → k < 64 → valueAt (mkT k l h) σ ≡ cond (bitAt σ k) (valueAt h σ) (valueAt l σ)
@@ -71,7 +68,7 @@ value-diagram (suc n) k f σ e le =
     side false = refl
 
 -- the diagram of a function that is at most m
-pub below-diagram : (m n k : ℕ) (f : List Bool → ℕ) → ((σ : List Bool) → f σ ≤ m) → k + n ≤ 64 → Below (65 + m) (diagram valueEnd n k f)
-unfolding diagram valueEnd Below
-below-diagram m zero k f h le = (omega (arith, h []), tt, tt)
-below-diagram m (suc n) k f h le = below-mkT (65 + m) k _ _ (omega arith) (below-diagram m n (suc k) (λ σ. f (false ∷ σ)) (λ σ. h (false ∷ σ)) (omega arith)) (below-diagram m n (suc k) (λ σ. f (true ∷ σ)) (λ σ. h (true ∷ σ)) (omega arith))
+pub value-under : (m n k : ℕ) (f : List Bool → ℕ) → ((σ : List Bool) → f σ ≤ m) → k + n ≤ 64 → Under (65 + m) (diagram valueEnd n k f)
+unfolding diagram valueEnd Under
+value-under m zero k f h le = (omega (arith, h []), tt, tt)
+value-under m (suc n) k f h le = under-mkT (65 + m) k _ _ (omega arith) (value-under m n (suc k) (λ σ. f (false ∷ σ)) (λ σ. h (false ∷ σ)) (omega arith)) (value-under m n (suc k) (λ σ. f (true ∷ σ)) (λ σ. h (true ∷ σ)) (omega arith))

@@ -8,14 +8,13 @@ use mathlib.Core.Option.{Option, some}
 use native.Mathlib.Omega.{arith}
 use lib.Dec.{ltb, eqb}
 use borrow.Author.Tests.{lt-ltb, le-ltb, eq-eqb, ne-eqb, ltb-true, ltb-false}
-use Rattle.diagrams.specs.Tree.{Tree, none, all, node, same, mkT, endT, Canon, valueEnd, diagram}
+use Rattle.diagrams.specs.Tree.{Tree, none, all, node, same, mkT, endT, Canon, lowT, highT, valueEnd, diagram}
 use Rattle.diagrams.proofs.Trees.{test, same-true, mkT-same, mkT-node}
 use Rattle.diagrams.proofs.Applies.{lead}
 use Rattle.diagrams.proofs.Canonical.{canon-mkT}
 use Rattle.diagrams.proofs.Diagrams.{canon-set, canon-diagram, canon-valueEnd}
-use Rattle.utility.specs.Values.{lowAt, highAt}
-use Rattle.planning.specs.Tests.{pick}
-use Rattle.symbolic.specs.Peak.{larger, most}
+use Rattle.planning.specs.Connectives.{pick}
+use Rattle.search_theory.specs.Optimum.{larger, most}
 use Rattle.utility.specs.Within.{wholeT, withinT, mostEnd, mostT, havingEnd, havingT, asNumber}
 use Rattle.utility.proofs.Shapes.{equal}
 
@@ -106,8 +105,8 @@ module _ {A : Type 0} (end : Tree → ℕ → A) (join : ℕ → A → A → A) 
       ∙ ap₂ (join k) (within-diagram n (suc k) (λ σ. f (false ∷ σ)) (λ σ. g (false ∷ σ)) (omega arith)) (within-diagram n (suc k) (λ σ. f (true ∷ σ)) (λ σ. g (true ∷ σ)) (omega arith))
 
   -- a set that is not empty and a diagram that is no end value part at the lesser of their bits
-  pub within-lead : (t : Tree) (c : ℕ) (m r : Tree) (v : ℕ) → (t ≡ none → ⊥) → c < 64 → v ≡ lead t (node c m r) → walk t (node c m r) ≡ join v (walk (lowAt v t) (lowAt v (node c m r))) (walk (highAt v t) (highAt v (node c m r)))
-  unfolding withinT wholeT lead lowAt highAt
+  pub within-lead : (t : Tree) (c : ℕ) (m r : Tree) (v : ℕ) → (t ≡ none → ⊥) → c < 64 → v ≡ lead t (node c m r) → walk t (node c m r) ≡ join v (walk (lowT v t) (lowT v (node c m r))) (walk (highT v t) (highT v (node c m r)))
+  unfolding withinT wholeT lead lowT highT
   within-lead none c m r v n lt e = absurd (n refl)
   within-lead all c m r v n lt e = rw (e, eq-eqb c c refl, lt-ltb c 64 lt)
   within-lead (node b l h) c m r v n lt e =

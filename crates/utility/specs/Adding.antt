@@ -2,8 +2,7 @@
 use Prim.Native.Nat.{ℕ, zero, suc, _+_, _-_, _/_, _%_, _^_}
 use mathlib.Core.Bool.{Bool, cond}
 use lib.Dec.{ltb, leb, eqb}
-use Rattle.diagrams.specs.Tree.{Tree, none, all, node, mkT}
-use Rattle.utility.specs.Values.{lowAt, highAt}
+use Rattle.diagrams.specs.Tree.{Tree, none, all, node, mkT, lowT, highT}
 
 -- the tree with w added to every end value
 unfoldable pub plusT : ℕ → Tree → Tree
@@ -28,7 +27,7 @@ unfoldable pub addT : ℕ → ℕ → ℕ → ℕ → ℕ → Tree → Tree
 addT zero k care value w t = plusT w t
 addT (suc m) k care value w t =
     cond (eqb (care / 2 ^ k) 0) (plusT w t)
-    (mkT k (cond (lowIn care value k) (addT m (suc k) care value w (lowAt k t)) (lowAt k t)) (cond (highIn care value k) (addT m (suc k) care value w (highAt k t)) (highAt k t)))
+    (mkT k (cond (lowIn care value k) (addT m (suc k) care value w (lowT k t)) (lowT k t)) (cond (highIn care value k) (addT m (suc k) care value w (highT k t)) (highT k t)))
 
 -- that tree, or the tree itself where the cube has none of its states; no task has more than 48 bits
 unfoldable pub addAt : Bool → ℕ → ℕ → ℕ → ℕ → Tree → Tree

@@ -4,11 +4,11 @@ use Prim.Native.Nat.{ℕ, _+_}
 use mathlib.Core.Bool.{Bool}
 use mathlib.Core.List.{List, [], _∷_}
 use lib.ListN.{length}
-use Rattle.planning.specs.Tests.{pick}
+use Rattle.planning.specs.Connectives.{pick}
 use Rattle.planning.specs.Model.{Term, Task}
 use Rattle.planning.specs.Coding.{bits, fits, factsLits}
 use Rattle.diagrams.specs.Tree.{Tree, valueEnd, diagram, growAll}
-use Rattle.symbolic.specs.Bits.{reward}
+use Rattle.search_theory.specs.Bits.{reward}
 
 -- the function f with the term's weight added where its facts hold
 unfoldable pub plusTerm : List ℕ → Term → (List Bool → ℕ) → List Bool → ℕ

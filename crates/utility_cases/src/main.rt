@@ -136,7 +136,7 @@ fn cube(
     requires { ⌜ Ready (table (now bit) (now low) (now high) (now heads) (now chain) count) (now memo) 1 ⌝ }
     ensures { λ r. ⌜ MakesWith (table (now (bit .entry)) (now (low .entry)) (now (high .entry)) (now (heads .entry)) (now (chain .entry)) count) (table (now (bit .exit)) (now (low .exit)) (now (high .exit)) (now (heads .exit)) (now (chain .exit)) (r .count)) (now (memo .exit)) r (meetT 64 0 care value (tree (table (now (bit .entry)) (now (low .entry)) (now (high .entry)) (now (heads .entry)) (now (chain .entry)) count) 1)) ⌝ }
 {
-    cubes::demand(bit, low, high, heads, chain, memo, count, 0, care, value, 1)
+    diagram_cubes::demand(bit, low, high, heads, chain, memo, count, 0, care, value, 1)
 }
 
 // The set a with a random cube joined to it or taken from it; there are so many states.
@@ -248,7 +248,7 @@ fn within(
     if b.full {
         return;
     }
-    let top = greatest::greatest(
+    let top = utility_greatest::greatest(
         bit,
         low,
         high,
@@ -265,7 +265,7 @@ fn within(
     if top == 0 {
         return;
     }
-    let r = having::having(
+    let r = utility_select::having(
         bit,
         low,
         high,
@@ -336,7 +336,7 @@ fn fits(file: &[u8], n: usize, m: usize) -> bool
     let mut heads = [0u32; LENT];
     let mut chain = [0u32; LENT];
     let mut memo = [0u32; MEMO];
-    let r = building::build(
+    let r = utility_build::build(
         file,
         &mut bit[..n],
         &mut low[..n],
@@ -378,7 +378,7 @@ fn run(
     requires { ⌜ (length (now ulow) ≡ length (now ubit)) × (length (now uhigh) ≡ length (now ubit)) × (length (now ubit) ≡ 512) ⌝ }
     requires { ⌜ (length (now low) ≡ length (now bit)) × (length (now high) ≡ length (now bit)) × (length (now bit) ≤ 1048576) ⌝ }
 {
-    let r = building::build(file, ubit, ulow, uhigh, heads, chain, memo);
+    let r = utility_build::build(file, ubit, ulow, uhigh, heads, chain, memo);
     if r.full {
         return;
     }

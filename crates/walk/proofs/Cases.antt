@@ -2,9 +2,9 @@
 use Prim.Native.Nat.{ℕ}
 use mathlib.Core.Path.{_≡_, refl}
 use mathlib.Core.List.{List, [], _∷_, _++_}
-use Rattle.planning.specs.Tests.{_and_, _or_, pick}
+use Rattle.planning.specs.Connectives.{_and_, _or_, pick}
 use Rattle.planning.specs.Scan.{firstBad, every, tab}
-use Rattle.planning.specs.Model.{Task, valueOf, holds, apply, utility, operatorAt}
+use Rattle.planning.specs.Model.{Task, valueOf, holds, apply, stateUtility, operatorAt}
 use Rattle.planning.specs.Coding.{wide, width, bits}
 use Rattle.planning.specs.Cases.{fact, P, Q}
 use Rattle.task.specs.Bytes.{byte, le16, le32, part}
@@ -48,5 +48,5 @@ pub walks :
     ∷ walkOf (fileQ 5) (1 ∷ 0 ∷ 2 ∷ 0 ∷ [])
     ∷ []
     ≡ reached 2 3 ∷ refused 19 1 ∷ refused 18 1 ∷ refused 17 0 ∷ refused 16 0 ∷ reached 4 7 ∷ []
-unfolding _and_ _or_ pick firstBad every tab wide width bits byte le16 le32 part variableRecord operatorRecord termRecord effects sizes letterRight lettersRight lengthRight countsRight sectionInside apart allInside allApart headerFault namesVariable hasValue rises usedRight unusedRight factRight factsRight variableRight costRight factCountsRight preconditionsRight effectsRight operatorRecordRight operatorRight termCountsRight termFactsRight termRecordRight termRight checkOf accepted facts taskOf valueOf holds apply utility operatorAt walkFrom walkOf
+unfolding _and_ _or_ pick firstBad every tab wide width bits byte le16 le32 part variableRecord operatorRecord termRecord effects sizes letterRight lettersRight lengthRight countsRight sectionInside apart allInside allApart headerFault namesVariable hasValue rises usedRight unusedRight factRight factsRight variableRight costRight factCountsRight preconditionsRight effectsRight operatorRecordRight operatorRight termCountsRight termFactsRight termRecordRight termRight checkOf accepted facts taskOf valueOf holds apply stateUtility operatorAt walkFrom walkOf
 walks = refl

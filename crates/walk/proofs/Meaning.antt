@@ -10,8 +10,8 @@ use native.Mathlib.Nat.{add-zero, zero-add}
 use lib.ListN.{length, getD, take}
 use lib.Dec.{ltb}
 use borrow.Author.Tests.{leb-true, le-leb}
-use Rattle.planning.specs.Tests.{_and_, pick}
-use Rattle.planning.specs.Model.{Task, utility, operatorAt, canApply, next, applicable, end, cost, worth}
+use Rattle.planning.specs.Connectives.{_and_, pick}
+use Rattle.planning.specs.Model.{Task, stateUtility, operatorAt, canApply, next, applicable, end, cost, utility}
 use Rattle.planning.proofs.Guards.{pick-yes}
 use Rattle.task.specs.Decode.{taskOf}
 use Rattle.task.specs.Check.{accepted}
@@ -85,7 +85,7 @@ module _ (t : Task) where
       (both-and _ _ (b .0) (b .1), leb-true _ _ (b .2))
 
   -- ---- a whole walk
-  succeeds : (p : List ℕ) (i : ℕ) (s : List ℕ) (c : ℕ) → SucceedsFrom s c p → walkFrom t i s c p ≡ reached (c + cost t p) (utility (t .terms) (end t s p))
+  succeeds : (p : List ℕ) (i : ℕ) (s : List ℕ) (c : ℕ) → SucceedsFrom s c p → walkFrom t i s c p ≡ reached (c + cost t p) (stateUtility (t .terms) (end t s p))
   unfolding walkFrom applicable cost end
   succeeds [] i s c h = rw add-zero
   succeeds (o ∷ p) i s c h =
@@ -94,7 +94,7 @@ module _ (t : Task) where
       let e : (c + price o) + cost t p ≡ c + (price o + cost t p) = omega arith in
       sym (passes i s c o p (b .0) (omega (arith, h .within)))
       ∙ succeeds p (suc i) (next t o s) (c + price o) (record { applies = b .1; within = w })
-      ∙ ap (λ (x : ℕ). reached x (utility (t .terms) (end t (next t o s) p))) e
+      ∙ ap (λ (x : ℕ). reached x (stateUtility (t .terms) (end t (next t o s) p))) e
 
   fails : (p : List ℕ) (i : ℕ) (s : List ℕ) (c n j : ℕ) → FailsFrom s c p n j → walkFrom t i s c p ≡ refused n (i + j)
   unfolding applicable cost end
@@ -170,9 +170,9 @@ module _ (f plan : List ℕ) (a : accepted f ≡ true) (even : length plan % 2 �
   known : SucceedsFrom T (T .start) 0 (steps plan) ⊎ SomeFault T (T .start) 0 (steps plan)
   known = outcome T (steps plan) (T .start) 0 (omega arith)
 
-  good : SucceedsFrom T (T .start) 0 (steps plan) → walkOf f plan ≡ reached (cost T (steps plan)) (worth T (steps plan))
-  unfolding worth
-  good r = sym whole ∙ succeeds T (steps plan) 0 (T .start) 0 r ∙ ap (λ (x : ℕ). reached x (worth T (steps plan))) (zero-add (cost T (steps plan)))
+  good : SucceedsFrom T (T .start) 0 (steps plan) → walkOf f plan ≡ reached (cost T (steps plan)) (utility T (steps plan))
+  unfolding utility
+  good r = sym whole ∙ succeeds T (steps plan) 0 (T .start) 0 r ∙ ap (λ (x : ℕ). reached x (utility T (steps plan))) (zero-add (cost T (steps plan)))
 
   bad : (n j : ℕ) → FailsFrom T (T .start) 0 (steps plan) n j → walkOf f plan ≡ refused n j
   bad n j r = sym whole ∙ fails T (steps plan) 0 (T .start) 0 n j r ∙ ap (refused n) (zero-add j)
@@ -187,7 +187,7 @@ module _ (f plan : List ℕ) (a : accepted f ≡ true) (even : length plan % 2 �
             applies = r .applies;
             within = omega (arith, r .within);
             costs = cc;
-            worths = cc;
+            utility-is = cc;
           }
       to (inr r) e =
           let g = bad (r .number) (r .step) (r .fails) in
@@ -195,7 +195,7 @@ module _ (f plan : List ℕ) (a : accepted f ≡ true) (even : length plan % 2 �
           absurd (omega arith)
 
       from : Succeeds T (steps plan) c u → walkOf f plan ≡ reached c u
-      from s = good (record { applies = s .applies; within = omega (arith, s .within) }) ∙ rw (s .costs, s .worths)
+      from s = good (record { applies = s .applies; within = omega (arith, s .within) }) ∙ rw (s .costs, s .utility-is)
 
   pub walk-fails : (n i : ℕ) → (walkOf f plan ≡ refused n i) ↔ Fails T (steps plan) n i
   walk-fails n i = (to known, from)

@@ -9,7 +9,7 @@ use lib.ListN.{length}
 use lib.Dec.{ltb}
 use borrow.Author.Tests.{eq-eqb, ne-eqb, lt-ltb, le-ltb, le-leb, lt-leb}
 use Rattle.planning.specs.Scan.{tab}
-use Rattle.planning.specs.Model.{Fact, holds, apply, utility, operatorAt}
+use Rattle.planning.specs.Model.{Fact, holds, apply, stateUtility, operatorAt}
 use Rattle.planning.proofs.Guards.{pick-yes, pick-no}
 use Rattle.task.specs.Format.{variables, startValue, operators, bound, operatorRecord, preconditions, preconditionCount, cost, effects, effectCount}
 use Rattle.task.specs.Decode.{facts, operatorIn, taskOf}
@@ -69,7 +69,7 @@ module _ (f plan : List ℕ) where
             (pick-yes _ _ _ _ meets
             (pick-yes _ _ _ _ (rw (operator-at f o l, ← ed) (le-leb _ _ b)) (rw (operator-at f o l, ← ed, ← et, add-one)))))
 
-  pub walk-end : (W : Answer) (s : List ℕ) (c k u : ℕ) → length plan / 2 ≤ k → WalkAt W s c k → u ≡ utility (taskOf f .terms) s → W ≡ reached c u
+  pub walk-end : (W : Answer) (s : List ℕ) (c k u : ℕ) → length plan / 2 ≤ k → WalkAt W s c k → u ≡ stateUtility (taskOf f .terms) s → W ≡ reached c u
   unfolding walkFrom
   walk-end W s c k u h inv e = inv ∙ ap (walkFrom (taskOf f) k s c) (tab-done (stepAt plan) (length plan / 2) k h) ∙ ap (reached c) (sym e)
 

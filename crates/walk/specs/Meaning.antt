@@ -5,8 +5,8 @@ use mathlib.Core.Bool.{true}
 use mathlib.Core.List.{List}
 use lib.ListN.{length, getD, take}
 use lib.Dec.{leb, ltb}
-use Rattle.planning.specs.Tests.{pick}
-use Rattle.planning.specs.Model.{Task, holds, operatorAt, applicable, end, cost, worth}
+use Rattle.planning.specs.Connectives.{pick}
+use Rattle.planning.specs.Model.{Task, holds, operatorAt, applicable, end, cost, utility}
 
 -- the fault of operator number o in the state s after the cost c: no such operator, a precondition unmet, the cost so far above the
 -- bound; 0 for none
@@ -21,7 +21,7 @@ pub record Succeeds (t : Task) (p : List ℕ) (c u : ℕ) : Type 0 where
   pub applies : applicable t (t .start) p ≡ true
   pub within : cost t p ≤ t .bound
   pub costs : c ≡ cost t p
-  pub worths : u ≡ worth t p
+  pub utility-is : u ≡ utility t p
 
 -- the steps before step i are applicable and within the bound, and step i has the fault n
 pub record Fails (t : Task) (p : List ℕ) (n i : ℕ) : Type 0 where

@@ -3,9 +3,9 @@ use Prim.Native.Nat.{ℕ, suc, _+_, _*_, _/_, _%_}
 use mathlib.Core.List.{List, [], _∷_}
 use lib.ListN.{length}
 use lib.Dec.{eqb, leb, ltb}
-use Rattle.planning.specs.Tests.{pick}
+use Rattle.planning.specs.Connectives.{pick}
 use Rattle.planning.specs.Scan.{tab}
-use Rattle.planning.specs.Model.{Task, holds, apply, utility, operatorAt}
+use Rattle.planning.specs.Model.{Task, holds, apply, stateUtility, operatorAt}
 use Rattle.task.specs.Bytes.{le16}
 use Rattle.task.specs.Check.{checkOf, accepted}
 use Rattle.task.specs.Decode.{taskOf}
@@ -17,7 +17,7 @@ pub data Answer : Type 0 where
 
 -- from step i on, in the state s, after the cost c
 unfoldable pub walkFrom : Task → ℕ → List ℕ → ℕ → List ℕ → Answer
-walkFrom t i s c [] = reached c (utility (t .terms) s)
+walkFrom t i s c [] = reached c (stateUtility (t .terms) s)
 walkFrom t i s c (o ∷ p) =
     pick (ltb o (length (t .operators)))
     (pick (holds s (operatorAt (t .operators) o .pre))

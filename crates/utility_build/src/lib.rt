@@ -1,0 +1,114 @@
+// The utility diagram of the task that a file holds: the constant 0, then each term added in turn.
+use diagrams::Made;
+ghost use mathlib.Core.Path.{_≡_};
+ghost use mathlib.Core.Bool.{true};
+ghost use Prim.Native.Nat.{_-_, _<_, _≤_};
+ghost use lib.ListN.{length};
+ghost use Rattle.diagrams.specs.Store.{table};
+ghost use Rattle.diagrams.specs.Sets.{MakesAllWith};
+ghost use Rattle.task.specs.Format.{terms};
+ghost use Rattle.task.specs.Check.{accepted};
+ghost use Rattle.task.specs.Decode.{taskOf};
+ghost use Rattle.utility_build.specs.Built.{stage, stagesAfter, Ready, AddsTerm, Builds};
+
+// The stage after the one named a, in which the first t terms are added.
+fn add_term(
+    file: &[u8],
+    bit: &mut [u32],
+    low: &mut [u32],
+    high: &mut [u32],
+    heads: &mut [u32],
+    chain: &mut [u32],
+    memo: &mut [u32],
+    count: usize,
+    a: u32,
+    t: usize,
+) -> Made
+    requires { ⌜ Ready (now file) (table (now bit) (now low) (now high) (now heads) (now chain) count) (now memo) a t × (t < terms (now file)) ⌝ }
+    ensures { λ r. ⌜ AddsTerm (now (file .entry)) (table (now (bit .entry)) (now (low .entry)) (now (high .entry)) (now (heads .entry)) (now (chain .entry)) count) (table (now (bit .exit)) (now (low .exit)) (now (high .exit)) (now (heads .exit)) (now (chain .exit)) (r .count)) (now (memo .exit)) r t ⌝ }
+{
+    let cube = task::model::term_cube(file, t);
+    let weight = task::model::term_weight(file, t) as u32;
+    diagrams::widen(memo, count);
+    let stamp = diagrams::stamp(memo);
+    utility_add::add(
+        bit,
+        low,
+        high,
+        heads,
+        chain,
+        memo,
+        count,
+        stamp,
+        0,
+        cube.care,
+        cube.value,
+        weight,
+        a,
+        true,
+    )
+}
+
+// The stages after the one named a, in which the first t terms are added.
+fn add_terms(
+    file: &[u8],
+    bit: &mut [u32],
+    low: &mut [u32],
+    high: &mut [u32],
+    heads: &mut [u32],
+    chain: &mut [u32],
+    memo: &mut [u32],
+    count: usize,
+    a: u32,
+    t: usize,
+) -> Made
+    requires { ⌜ Ready (now file) (table (now bit) (now low) (now high) (now heads) (now chain) count) (now memo) a t ⌝ }
+    ensures { λ r. ⌜ MakesAllWith (table (now (bit .entry)) (now (low .entry)) (now (high .entry)) (now (heads .entry)) (now (chain .entry)) count) (table (now (bit .exit)) (now (low .exit)) (now (high .exit)) (now (heads .exit)) (now (chain .exit)) (r .count)) (now (memo .exit)) r (stagesAfter (now (file .entry)) (terms (now (file .entry)) - t) t) (stage (now (file .entry)) (terms (now (file .entry)))) ⌝ }
+{
+    if task::header::terms(file) <= t {
+        return Made {
+            name: a,
+            count,
+            full: false,
+        };
+    }
+    let r = add_term(file, bit, low, high, heads, chain, memo, count, a, t);
+    if r.full {
+        return r;
+    }
+    add_terms(
+        file,
+        bit,
+        low,
+        high,
+        heads,
+        chain,
+        memo,
+        r.count,
+        r.name,
+        t + 1,
+    )
+}
+
+// The utility diagram of an accepted file's task. What the lists hold before does not matter.
+pub fn build(
+    file: &[u8],
+    bit: &mut [u32],
+    low: &mut [u32],
+    high: &mut [u32],
+    heads: &mut [u32],
+    chain: &mut [u32],
+    memo: &mut [u32],
+) -> Made
+    requires { ⌜ accepted (now file) ≡ true ⌝ }
+    requires { ⌜ (length (now low) ≡ length (now bit)) × (length (now high) ≡ length (now bit)) × (length (now bit) ≤ 1048576) ⌝ }
+    ensures { λ r. ⌜ Builds (table (now (bit .entry)) (now (low .entry)) (now (high .entry)) (now (heads .entry)) (now (chain .entry)) 0) (table (now (bit .exit)) (now (low .exit)) (now (high .exit)) (now (heads .exit)) (now (chain .exit)) (r .count)) r (taskOf (now (file .entry))) ⌝ }
+{
+    diagrams::clear(heads);
+    diagrams::begin(memo);
+    let r = diagrams::mk(bit, low, high, heads, chain, 0, 64, 0, 1);
+    if r.full {
+        return r;
+    }
+    add_terms(file, bit, low, high, heads, chain, memo, r.count, r.name, 0)
+}
