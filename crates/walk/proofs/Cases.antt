@@ -11,7 +11,10 @@ use Rattle.task.specs.Bytes.{byte, le16, le32, part}
 use Rattle.task.specs.Format.{variableRecord, operatorRecord, termRecord, effects}
 use Rattle.task.specs.Decode.{facts, sizes, taskOf}
 use Rattle.task.specs.Check.{letterRight, lettersRight, lengthRight, countsRight, sectionInside, apart, allInside, allApart, headerFault, namesVariable, hasValue, rises, usedRight, unusedRight, factRight, factsRight, variableRight, costRight, factCountsRight, preconditionsRight, effectsRight, operatorRecordRight, operatorRight, termCountsRight, termFactsRight, termRecordRight, termRight, checkOf, accepted}
-use Rattle.walk.specs.Walk.{refused, reached, walkFrom, walkOf}
+use Rattle.walk.specs.declared.Fault.the-variants.{Operator, Precondition, Bound}
+use Rattle.walk.specs.declared.Walked.{Walked}
+use Rattle.walk.specs.declared.Walked.the-variants.{Odd, Reached}
+use Rattle.walk.specs.Walk.{stopsAt, walkFrom, walkOf}
 use Rattle.walk.specs.Cases.{header, operator, fileP, fileQ, fileOf}
 
 -- the files hold the tasks
@@ -40,13 +43,14 @@ checks = refl
 
 -- the walk over P: 1, 2 with b = 2; 1, 2 with b = 1; 1, 1; 3; and Q with b = 5: 1, 2
 pub walks :
-    walkOf (fileP 2) (1 ∷ 0 ∷ 2 ∷ 0 ∷ [])
+    _≡_ {A = List Walked}
+    (walkOf (fileP 2) (1 ∷ 0 ∷ 2 ∷ 0 ∷ [])
     ∷ walkOf (fileP 1) (1 ∷ 0 ∷ 2 ∷ 0 ∷ [])
     ∷ walkOf (fileP 2) (1 ∷ 0 ∷ 1 ∷ 0 ∷ [])
     ∷ walkOf (fileP 2) (3 ∷ 0 ∷ [])
     ∷ walkOf (fileP 2) (3 ∷ [])
     ∷ walkOf (fileQ 5) (1 ∷ 0 ∷ 2 ∷ 0 ∷ [])
-    ∷ []
-    ≡ reached 2 3 ∷ refused 19 1 ∷ refused 18 1 ∷ refused 17 0 ∷ refused 16 0 ∷ reached 4 7 ∷ []
+    ∷ [])
+    (Reached 2 3 ∷ stopsAt 1 Bound ∷ stopsAt 1 Precondition ∷ stopsAt 0 Operator ∷ Odd ∷ Reached 4 7 ∷ [])
 unfolding _and_ _or_ pick firstBad every tab wide width bits byte le16 le32 part variableRecord operatorRecord termRecord effects sizes letterRight lettersRight lengthRight countsRight sectionInside apart allInside allApart headerFault namesVariable hasValue rises usedRight unusedRight factRight factsRight variableRight costRight factCountsRight preconditionsRight effectsRight operatorRecordRight operatorRight termCountsRight termFactsRight termRecordRight termRight checkOf accepted facts taskOf valueOf holds apply stateUtility operatorAt walkFrom walkOf
 walks = refl

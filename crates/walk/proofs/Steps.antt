@@ -16,26 +16,28 @@ use Rattle.task.specs.Decode.{facts, operatorIn, taskOf}
 use Rattle.task.specs.Check.{checkOf, accepted}
 use Rattle.task.proofs.StateLaws.{tab-more, tab-done}
 use Rattle.task.proofs.Goodness.{operator-count, operator-at}
-use Rattle.walk.specs.Walk.{Answer, refused, reached, walkFrom, stepAt, steps, walkOf}
-use Rattle.walk.specs.Answers.{faultNumber}
 use Rattle.walk.specs.declared.Fault.{Fault}
+use Rattle.walk.specs.declared.Fault.the-variants.{Operator, Precondition, Bound}
+use Rattle.walk.specs.declared.Walked.{Walked}
+use Rattle.walk.specs.declared.Walked.the-variants.{Unread, Odd, Reached}
+use Rattle.walk.specs.Walk.{stopsAt, walkFrom, stepAt, steps, walkOf}
 
 module _ (f plan : List ℕ) where
   -- the walk so far leaves this to walk
-  abbrev pub WalkAt : Answer → List ℕ → ℕ → ℕ → Type 0
+  abbrev pub WalkAt : Walked → List ℕ → ℕ → ℕ → Type 0
   WalkAt W s c k = W ≡ walkFrom (taskOf f) k s c (tab (stepAt plan) (length plan / 2 - k) k)
 
   pub walk-none : (s : List ℕ) → WalkAt (walkFrom (taskOf f) 0 s 0 (steps plan)) s 0 0
   walk-none s = rw sub-zero
 
-  module _ (W : Answer) (s : List ℕ) (c k o : ℕ) (h : k < length plan / 2) (inv : WalkAt W s c k) (e : o ≡ stepAt plan k) where
+  module _ (W : Walked) (s : List ℕ) (c k o : ℕ) (h : k < length plan / 2) (inv : WalkAt W s c k) (e : o ≡ stepAt plan k) where
     abbrev rest : List ℕ
     rest = tab (stepAt plan) (length plan / 2 - (k + 1)) (k + 1)
 
     here : W ≡ walkFrom (taskOf f) k s c (o ∷ rest)
     here = inv ∙ ap (walkFrom (taskOf f) k s c) (tab-more (stepAt plan) (length plan / 2) k h ∙ ap (λ (x : ℕ). x ∷ rest) (sym e))
 
-    pub walk-17 : operators f ≤ o → W ≡ refused 17 k
+    pub walk-17 : operators f ≤ o → W ≡ stopsAt k Operator
     unfolding walkFrom
     walk-17 l = here ∙ sym (pick-no _ _ _ _ (rw (operator-count f) (le-ltb _ _ l)) refl)
 
@@ -43,7 +45,7 @@ module _ (f plan : List ℕ) where
       known : ltb o (length (taskOf f .operators)) ≡ true
       known = rw (operator-count f) (lt-ltb _ _ l)
 
-      pub walk-18 : (pre : List Fact) → pre ≡ operatorIn f o .pre → false ≡ holds s pre → W ≡ refused 18 k
+      pub walk-18 : (pre : List Fact) → pre ≡ operatorIn f o .pre → false ≡ holds s pre → W ≡ stopsAt k Precondition
       unfolding walkFrom
       walk-18 pre p q =
           here ∙ sym (pick-yes _ _ _ _ known (pick-no _ _ _ _ (rw (operator-at f o l, ← p) (sym q)) refl))
@@ -52,7 +54,7 @@ module _ (f plan : List ℕ) where
         meets : holds s (operatorAt (taskOf f .operators) o .pre) ≡ true
         meets = rw (operator-at f o l, ← p) (sym q)
 
-        pub walk-19 : bound f < d → W ≡ refused 19 k
+        pub walk-19 : bound f < d → W ≡ stopsAt k Bound
         unfolding walkFrom taskOf
         walk-19 b =
             here
@@ -69,9 +71,9 @@ module _ (f plan : List ℕ) where
             (pick-yes _ _ _ _ meets
             (pick-yes _ _ _ _ (rw (operator-at f o l, ← ed) (le-leb _ _ b)) (rw (operator-at f o l, ← ed, ← et, add-one)))))
 
-  pub walk-end : (W : Answer) (s : List ℕ) (c k u : ℕ) → length plan / 2 ≤ k → WalkAt W s c k → u ≡ stateUtility (taskOf f .terms) s → W ≡ reached c u
+  pub walk-end : (W : Walked) (s : List ℕ) (c k u : ℕ) → length plan / 2 ≤ k → WalkAt W s c k → u ≡ stateUtility (taskOf f .terms) s → W ≡ Reached c u
   unfolding walkFrom
-  walk-end W s c k u h inv e = inv ∙ ap (walkFrom (taskOf f) k s c) (tab-done (stepAt plan) (length plan / 2) k h) ∙ ap (reached c) (sym e)
+  walk-end W s c k u h inv e = inv ∙ ap (walkFrom (taskOf f) k s c) (tab-done (stepAt plan) (length plan / 2) k h) ∙ ap (Reached c) (sym e)
 
 -- ---- what the calls on an operator's record gave
 module _ (f r : List ℕ) (o : ℕ) (e : r ≡ operatorRecord f o) where
@@ -85,25 +87,25 @@ module _ (f r : List ℕ) (o : ℕ) (e : r ≡ operatorRecord f o) where
   state-is s t row n d p q = d ∙ rw (p, q, e)
 
 -- ---- the answer, by the fault that is noted and the cost that is counted
-pub stopped : (W : Answer) (x y : Fault) (k : ℕ) → x ≡ y → W ≡ refused (faultNumber y) k → refused (faultNumber x) k ≡ W
-stopped W x y k e p = ap (λ (z : Fault). refused (faultNumber z) k) e ∙ sym p
+pub stopped : (W : Walked) (x y : Fault) (k : ℕ) → x ≡ y → W ≡ stopsAt k y → stopsAt k x ≡ W
+stopped W x y k e p = ap (stopsAt k) e ∙ sym p
 
-pub finished : (W : Answer) (c d u : ℕ) → c ≡ d → W ≡ reached d u → reached c u ≡ W
-finished W c d u e p = ap (λ (z : ℕ). reached z u) e ∙ sym p
+pub finished : (W : Walked) (c d u : ℕ) → c ≡ d → W ≡ Reached d u → Reached c u ≡ W
+finished W c d u e p = ap (λ (z : ℕ). Reached z u) e ∙ sym p
 
 pub walk-start : (f plan s : List ℕ) (n : ℕ) → s ≡ tab (startValue f) n 0 → n ≡ variables f → walkFrom (taskOf f) 0 s 0 (steps plan) ≡ walkFrom (taskOf f) 0 (taskOf f .start) 0 (steps plan)
 unfolding taskOf
 walk-start f plan s n e d = ap (λ (x : List ℕ). walkFrom (taskOf f) 0 x 0 (steps plan)) (e ∙ ap (λ (m : ℕ). tab (startValue f) m 0) d)
 
 -- ---- the answers before the first step
-pub walk-refused : (f plan : List ℕ) (n v : ℕ) → (n, v) ≡ checkOf f → false ≡ accepted f → refused n v ≡ walkOf f plan
+pub walk-refused : (f plan : List ℕ) (n v : ℕ) → (n, v) ≡ checkOf f → false ≡ accepted f → Unread n v ≡ walkOf f plan
 unfolding walkOf
-walk-refused f plan n v e a = pick-no _ _ _ _ (sym a) (ap (λ (p : ℕ × ℕ). refused (p .0) (p .1)) e)
+walk-refused f plan n v e a = pick-no _ _ _ _ (sym a) (ap (λ (p : ℕ × ℕ). Unread (p .0) (p .1)) e)
 
-pub walk-odd : (f plan : List ℕ) → true ≡ accepted f → (length plan % 2 ≡ 0 → ⊥) → refused 16 0 ≡ walkOf f plan
+pub walk-odd : (f plan : List ℕ) → true ≡ accepted f → (length plan % 2 ≡ 0 → ⊥) → Odd ≡ walkOf f plan
 unfolding walkOf
 walk-odd f plan a h = pick-yes _ _ _ _ (sym a) (pick-no _ _ _ _ (ne-eqb _ _ h) refl)
 
-pub walk-even : (f plan : List ℕ) (W : Answer) → true ≡ accepted f → length plan % 2 ≡ 0 → W ≡ walkFrom (taskOf f) 0 (taskOf f .start) 0 (steps plan) → W ≡ walkOf f plan
+pub walk-even : (f plan : List ℕ) (W : Walked) → true ≡ accepted f → length plan % 2 ≡ 0 → W ≡ walkFrom (taskOf f) 0 (taskOf f .start) 0 (steps plan) → W ≡ walkOf f plan
 unfolding walkOf
 walk-even f plan W a h e = pick-yes _ _ _ _ (sym a) (pick-yes _ _ _ _ (eq-eqb _ _ h) e)

@@ -23,7 +23,6 @@ ghost use Rattle.task.specs.Limits.{mostVariables};
 ghost use Rattle.task.specs.Format.{variables};
 ghost use Rattle.task.specs.Decode.{taskOf};
 ghost use Rattle.walk.specs.Walk.{walkFrom, walkOf, steps};
-ghost use Rattle.walk.specs.Answers.{walkAnswer};
 
 // What is wrong with a step.
 pub enum Fault {
@@ -53,7 +52,7 @@ pub enum Walked {
 
 // Walks the plan from the state, step by step, up to the first that fails.
 fn follow(file: &[u8], plan: &[u8], state: &mut [u8]) -> Walked
-    ensures { λ r. ⌜ walkAnswer r ≡ walkFrom (taskOf (now (file .entry))) 0 (now (state .entry)) 0 (steps (now (plan .entry))) ⌝ }
+    ensures { λ r. ⌜ r ≡ walkFrom (taskOf (now (file .entry))) 0 (now (state .entry)) 0 (steps (now (plan .entry))) ⌝ }
 {
     let n = plan.len() / 2;
     let count = operators(file);
@@ -99,7 +98,7 @@ fn follow(file: &[u8], plan: &[u8], state: &mut [u8]) -> Walked
 // Walks the plan from the starting state, in the room that is lent for a state.
 fn walk_in(file: &[u8], plan: &[u8], state: &mut [u8]) -> Walked
     requires { ⌜ (length (now state) ≡ variables (now file)) × (length (now state) ≤ mostVariables) ⌝ }
-    ensures { λ r. ⌜ walkAnswer r ≡ walkFrom (taskOf (now (file .entry))) 0 (taskOf (now (file .entry)) .start) 0 (steps (now (plan .entry))) ⌝ }
+    ensures { λ r. ⌜ r ≡ walkFrom (taskOf (now (file .entry))) 0 (taskOf (now (file .entry)) .start) 0 (steps (now (plan .entry))) ⌝ }
 {
     start(file, state);
     follow(file, plan, state)
@@ -107,7 +106,7 @@ fn walk_in(file: &[u8], plan: &[u8], state: &mut [u8]) -> Walked
 
 // The walk of a plan: the cost and the utility that it ends with, or the first step that fails.
 pub fn walk(file: &[u8], plan: &[u8]) -> Walked
-    ensures { λ r. ⌜ walkAnswer r ≡ walkOf (now (file .entry)) (now (plan .entry)) ⌝ }
+    ensures { λ r. ⌜ r ≡ walkOf (now (file .entry)) (now (plan .entry)) ⌝ }
 {
     if let Checked::Refused { number, place } = check(file) {
         return Walked::Unread { number, place };
