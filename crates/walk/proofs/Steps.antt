@@ -86,9 +86,9 @@ module _ (f r : List ℕ) (o : ℕ) (e : r ≡ operatorRecord f o) where
   pub state-is : (s t row : List ℕ) (n : ℕ) → t ≡ apply s (facts row n) → row ≡ effects r → n ≡ effectCount r → t ≡ apply s (operatorIn f o .eff)
   state-is s t row n d p q = d ∙ rw (p, q, e)
 
--- ---- the answer, by the fault that is noted and the cost that is counted
-pub stopped : (W : Walked) (x y : Fault) (k : ℕ) → x ≡ y → W ≡ stopsAt k y → stopsAt k x ≡ W
-stopped W x y k e p = ap (stopsAt k) e ∙ sym p
+-- ---- the answer, by the step and the fault with which the loop is left and the cost that is counted
+pub stopped : (W : Walked) (x y : Fault) (j k : ℕ) → x ≡ y → j ≡ k → W ≡ stopsAt k y → stopsAt j x ≡ W
+stopped W x y j k e q p = ap (stopsAt j) e ∙ ap (λ (m : ℕ). stopsAt m y) q ∙ sym p
 
 pub finished : (W : Walked) (c d u : ℕ) → c ≡ d → W ≡ Reached d u → Reached c u ≡ W
 finished W c d u e p = ap (λ (z : ℕ). Reached z u) e ∙ sym p

@@ -58,35 +58,41 @@ fn follow(file: &[u8], plan: &[u8], state: &mut [u8]) -> Walked
     let count = operators(file);
     let limit = bound(file);
     let mut spent: usize = 0;
-    let mut step = 0;
     let mut fault = Fault::Operator;
-    'steps: while step < n {
-        fault = Fault::Operator;
+    let mut step = 0;
+    let failed = 'steps: loop {
+        if n <= step {
+            break 'steps n;
+        }
         let o = le16(plan, 2 * step);
         if count <= o {
-            break 'steps;
+            fault = Fault::Operator;
+            break 'steps step;
         }
         let record = operator_record(file, o);
         let row = preconditions(record);
         let used = precondition_count(record);
-        fault = Fault::Precondition;
         let mut k = 0;
         while k < used {
             if !met(state, row, k) {
-                break 'steps;
+                fault = Fault::Precondition;
+                break 'steps step;
             }
             k += 1;
         }
-        fault = Fault::Bound;
         spent += cost(record);
         if limit < spent {
-            break 'steps;
+            fault = Fault::Bound;
+            break 'steps step;
         }
         apply(state, effects(record), effect_count(record));
         step += 1;
-    }
-    if step < n {
-        Walked::Stopped(Stop { step, fault })
+    };
+    if failed < n {
+        Walked::Stopped(Stop {
+            step: failed,
+            fault,
+        })
     } else {
         Walked::Reached {
             cost: spent,

@@ -17,19 +17,19 @@ use Rattle.walk.proofs.follow.Statement.{statement}
 use Rattle.walk.proofs.follow.Tie as tie
 
 abbrev Inv-loop : tie.InvT-loop
-Inv-loop file plan state n count limit spent step fault o «record» row used k₀ k = EveryFrom (met state row) used k
+Inv-loop file plan state n count limit spent fault₀ step o «record» row used k₀ fault k = EveryFrom (met state row) used k
 
 abbrev μ-loop : tie.MeasureT-loop
-μ-loop file plan state n count limit spent step fault o «record» row used k₀ k = used - k
+μ-loop file plan state n count limit spent fault₀ step o «record» row used k₀ fault k = used - k
 
 abbrev Inv-steps : tie.InvT-steps
-Inv-steps file plan state₀ n count limit spent₀ step₀ fault₀ state spent step fault =
+Inv-steps file plan state₀ n count limit spent₀ fault₀ step₀ state spent fault step =
     WalkAt file plan (walkFrom (taskOf file) 0 state₀ 0 (steps plan)) state spent step
     × ((step ≤ length plan / 2)
     × ((spent < 65536) × ((length state ≡ length state₀) × ((count ≡ operators file) × (limit ≡ bound file)))))
 
 abbrev μ-steps : tie.MeasureT-steps
-μ-steps file plan state₀ n count limit spent₀ step₀ fault₀ state spent step fault = length plan / 2 - step
+μ-steps file plan state₀ n count limit spent₀ fault₀ step₀ state spent fault step = length plan / 2 - step
 
 operators-requires : tie.Need-operators-requires Inv-loop μ-loop Inv-steps μ-steps
 operators-requires c κs = search needs
@@ -74,7 +74,7 @@ loop-less c = omega arith
 loop-again : tie.Need-loop-again Inv-loop μ-loop Inv-steps μ-steps
 loop-again c =
     let t = c .before .before .before in
-    every-more _ _ _ (t .loop-test .taken) (t .before .loop .inv) (right _ _ (c .before .met .ensures) (c .if2 .left))
+    every-more _ _ _ (t .loop-test .taken) (t .before .loop .inv) (right _ _ (c .before .met .ensures) (c .if3 .left))
 
 cost-requires : tie.Need-cost-requires Inv-loop μ-loop Inv-steps μ-steps
 cost-requires c κs = search needs
@@ -100,17 +100,16 @@ steps-less c = omega arith
 steps-again : tie.Need-steps-again Inv-loop μ-loop Inv-steps μ-steps
 steps-again c =
     let r = c .before .before in
-    let else3 = r .before .before .before .before in
-    let costs = else3 .before in
+    let else4 = r .before .before .before .before in
+    let costs = else4 .before in
     let loop = costs .before .before in
     let counted = loop .before in
     let rows = counted .before in
     let records = rows .before in
-    let else1 = records .before in
-    let reads = else1 .before in
+    let reads = records .before .before in
     let at = reads .before .before in
     let is = records .operator-record .ensures in (
-      walk-on _ _ _ _ _ _ _ (reads .before .steps-test .taken) (at .steps .inv .0) (reads .le16 .ensures .is) (omega (arith, at .steps .inv))
+      walk-on _ _ _ _ _ _ _ (reads .before .if1 .left) (at .steps .inv .0) (reads .le16 .ensures .is) (omega (arith, at .steps .inv))
           _
           (pre-is _ _ _ is _ _ (rows .preconditions .ensures) (counted .precondition-count .ensures .is))
           (every-done _ _ _ (costs .before .loop-test .left) (loop .loop .inv) ∙ holds-every _ _ _)
@@ -135,24 +134,24 @@ returns : tie.Need-returns Inv-loop μ-loop Inv-steps μ-steps
 returns c =
     let at = c .before .before in
     ⊎-elim
-    (λ w. absurd (omega arith))
+    (λ w. absurd (omega (arith, c .if5 .taken)))
     (⊎-elim
-    (λ w. stopped _ _ _ _ (w .4) (walk-17 _ _ _ _ _ _ _ (w .0 .taken) (at .steps .inv .0) (w .1 .ensures .is) (omega (arith, at .steps .inv))))
+    (λ w. stopped _ _ _ _ _ (w .4) (w .5) (walk-17 _ _ _ _ _ _ _ (w .0 .left) (at .steps .inv .0) (w .1 .ensures .is) (omega (arith, at .steps .inv))))
     (⊎-elim
     (λ w.
-    stopped _ _ _ _ (w .12)
-    (walk-18 _ _ _ _ _ _ _ (w .0 .taken) (at .steps .inv .0) (w .1 .ensures .is) (omega (arith, at .steps .inv)) _
+    stopped _ _ _ _ _ (w .12) (w .13)
+    (walk-18 _ _ _ _ _ _ _ (w .0 .left) (at .steps .inv .0) (w .1 .ensures .is) (omega (arith, at .steps .inv)) _
     (pre-is _ _ _ (w .3 .ensures) _ _ (w .4 .ensures) (w .5 .ensures .is))
     (every-stop _ _ _ (w .7 .taken) (w .6 .inv) (wrong _ _ (w .9 .ensures) (w .10 .taken)) ∙ holds-every _ _ _)))
     (λ w.
-    stopped _ _ _ _ (w .11)
-    (walk-19 _ _ _ _ _ _ _ (w .0 .taken) (at .steps .inv .0) (w .1 .ensures .is) (omega (arith, at .steps .inv)) _
+    stopped _ _ _ _ _ (w .11) (w .12)
+    (walk-19 _ _ _ _ _ _ _ (w .0 .left) (at .steps .inv .0) (w .1 .ensures .is) (omega (arith, at .steps .inv)) _
     (pre-is _ _ _ (w .3 .ensures) _ _ (w .4 .ensures) (w .5 .ensures .is))
     (every-done _ _ _ (w .7 .left) (w .6 .inv) ∙ holds-every _ _ _)
     _
     (cost-is _ _ _ (w .3 .ensures) _ _ (w .8 .ensures .is))
     (omega (arith, at .steps .inv))))))
-    (c .before .steps-test .came)
+    (c .before .if1 .came)
 
 same-length-2 : tie.Need-same-length-2 Inv-loop μ-loop Inv-steps μ-steps
 same-length-2 c = c .before .before .before .before .steps .inv .1 .1 .1 .0
@@ -162,9 +161,9 @@ returns-2 c =
     let left = c .before .before .before in
     let at = left .before in
     ⊎-elim
-    (λ w. finished _ _ _ _ (w .1) (walk-end _ _ _ _ _ _ _ (w .0 .left) (at .steps .inv .0) (c .utility .ensures)))
+    (λ w. finished _ _ _ _ (w .1) (walk-end _ _ _ _ _ _ _ (w .0 .taken) (at .steps .inv .0) (c .utility .ensures)))
     (⊎-elim (λ w. absurd (omega arith)) (⊎-elim (λ w. absurd (omega arith)) (λ w. absurd (omega arith))))
-    (left .steps-test .came)
+    (left .if1 .came)
 
 pub follow-spec : {M : Type 1} → statement M
 follow-spec =
