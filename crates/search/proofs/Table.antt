@@ -9,15 +9,17 @@ use Rattle.planning.specs.Model.{ceiling}
 use Rattle.planning.specs.Cases.{fact, P, Q}
 use Rattle.search_theory.proofs.Table.{Row, P-0, P-1, P-2, Q-3, Q-4, Q-5}
 use Rattle.utility.proofs.Cases.{entries-P, entries-Q}
-use Rattle.search.specs.declared.answer.Listing.{Listing}
-use Rattle.search.specs.Search.{Lent, lent, Answer, refused, found, listingOf, setsOf, madeOf}
+use Rattle.search.specs.declared.answer.Searched.{Searched}
+use Rattle.search.specs.declared.answer.Searched.the-variants.{Refused, Found}
+use Rattle.search.specs.Lent.{Lent, lent}
+use Rattle.search.specs.Search.{listingOf, setsOf, madeOf}
 
 -- lists of n node entries, six utility entries and p steps
 abbrev lists : ℕ → ℕ → Lent
-lists n p = lent [] (replicate n 0) (replicate n 0) (replicate n 0) (replicate 6 0) (replicate 6 0) (replicate 6 0) (replicate p 0)
+lists n p = lent [] (replicate n 0) (replicate n 0) (replicate n 0) (replicate 6 0) (replicate 6 0) (replicate 6 0) [] [] [] (replicate p 0)
 
-abbrev figures : ℕ → ℕ → ℕ → ℕ → ℕ → ℕ → ℕ → Answer
-figures u c g b n e k = found (record { utility = u; ceiling = c; cost = g; bound = b; nodes = n; entries = e; steps = k })
+abbrev figures : ℕ → ℕ → ℕ → ℕ → ℕ → ℕ → ℕ → Searched
+figures u c g b n e k = Found (record { utility = u; ceiling = c; cost = g; bound = b; nodes = n; entries = e; steps = k })
 
 ceiling-P : (b : ℕ) → ceiling (P b .terms) ≡ 3
 unfolding P fact ceiling
@@ -47,11 +49,11 @@ pub P-with-2 : madeOf (P 2) (lists 10 2) ≡ figures 3 3 2 2 10 6 2
 unfolding madeOf setsOf listingOf pick
 P-with-2 = rw (entries-P 2, P-2 .nodes-are, P-2 .plan-is, P-2 .utility-is, P-2 .cost-is, ceiling-P 2, bound-P 2)
 
-pub P-nodes-7 : madeOf (P 1) (lists 7 1) ≡ refused 14 0
+pub P-nodes-7 : madeOf (P 1) (lists 7 1) ≡ Refused 14 0
 unfolding madeOf setsOf pick
 P-nodes-7 = rw (entries-P 1, P-1 .nodes-are)
 
-pub P-plan-0 : madeOf (P 1) (lists 8 0) ≡ refused 15 0
+pub P-plan-0 : madeOf (P 1) (lists 8 0) ≡ Refused 15 0
 unfolding madeOf setsOf pick
 P-plan-0 = rw (entries-P 1, P-1 .nodes-are, P-1 .plan-is)
 

@@ -1,3 +1,7 @@
-pub mod Hands
+-- The definitions of the search: what is lent, the answer, what the lists hold afterwards, and what an answer means.
+pub mod Lent
+pub mod Permitted
+pub mod Answers
 pub mod Search
-pub mod Right
+pub mod WritesPlan
+pub mod Meaning

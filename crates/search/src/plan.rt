@@ -9,13 +9,13 @@ ghost use Rattle.task.specs.Decode.{taskOf};
 ghost use Rattle.search_theory.specs.Optimum.{bestCost};
 ghost use Rattle.search_theory.specs.Plan.{planOf};
 ghost use Rattle.search_recovery.specs.Wants.{Wants};
-ghost use Rattle.search.specs.Hands.{Hands};
+ghost use Rattle.search.specs.WritesPlan.{WritesPlan};
 
 // A plan has no more steps than its cost, which is at most 4,095.
 const MOST_STEPS: usize = 4096;
 
 // Writes the first n steps to the plan list.
-fn write(plan: &mut [u16], steps: &[u16], n: usize)
+fn copy_steps(plan: &mut [u16], steps: &[u16], n: usize)
     requires { ⌜ (n ≤ length (now plan)) × (n ≤ length (now steps)) ⌝ }
     ensures { λ _. ⌜ now (plan .exit) ≡ take n (now (steps .entry)) ++ drop n (now (plan .entry)) ⌝ }
 {
@@ -26,8 +26,8 @@ fn write(plan: &mut [u16], steps: &[u16], n: usize)
     }
 }
 
-// Hands over the plan by way of a list of steps; the figures lack their number.
-fn hand_over(
+// Recovers the plan into a list of steps and writes it to the plan list; the figures lack the number of steps.
+fn write_plan(
     file: &[u8],
     wanted: &[u32],
     bit: &[u32],
@@ -40,7 +40,7 @@ fn hand_over(
     requires { ⌜ Wants (now file) (now wanted) (now bit) (now low) (now high) (figures .nodes) ⌝ }
     requires { ⌜ figures .cost ≡ bestCost (taskOf (now file)) ⌝ }
     requires { ⌜ length (planOf (taskOf (now file))) ≤ length (now steps) ⌝ }
-    ensures { λ r. ⌜ Hands (planOf (taskOf (now (file .entry)))) figures (now (plan .entry)) (now (plan .exit)) r ⌝ }
+    ensures { λ r. ⌜ WritesPlan (planOf (taskOf (now (file .entry)))) figures (now (plan .entry)) (now (plan .exit)) r ⌝ }
 {
     let n = search_recovery::recover(
         file,
@@ -58,7 +58,7 @@ fn hand_over(
             place: 0,
         };
     }
-    write(plan, steps, n);
+    copy_steps(plan, steps, n);
     Searched::Found(Listing {
         utility: figures.utility,
         ceiling: figures.ceiling,
@@ -71,7 +71,7 @@ fn hand_over(
 }
 
 // The plan through the wanted sets, or refusal 15.
-pub fn finish(
+pub fn recover_plan(
     file: &[u8],
     wanted: &[u32],
     bit: &[u32],
@@ -82,8 +82,8 @@ pub fn finish(
 ) -> Searched
     requires { ⌜ Wants (now file) (now wanted) (now bit) (now low) (now high) (figures .nodes) ⌝ }
     requires { ⌜ figures .cost ≡ bestCost (taskOf (now file)) ⌝ }
-    ensures { λ r. ⌜ Hands (planOf (taskOf (now (file .entry)))) figures (now (plan .entry)) (now (plan .exit)) r ⌝ }
+    ensures { λ r. ⌜ WritesPlan (planOf (taskOf (now (file .entry)))) figures (now (plan .entry)) (now (plan .exit)) r ⌝ }
 {
     let mut steps = [0u16; MOST_STEPS];
-    hand_over(file, wanted, bit, low, high, &mut steps[..], plan, figures)
+    write_plan(file, wanted, bit, low, high, &mut steps[..], plan, figures)
 }

@@ -1,0 +1,15 @@
+-- Document 01's number and values for each answer of the search.
+use Prim.Native.Nat.{ℕ}
+use Rattle.search.specs.declared.answer.Listing.{Listing}
+use Rattle.search.specs.declared.answer.Searched.{Searched}
+use Rattle.search.specs.declared.answer.Searched.the-variants.{Refused, Found}
+
+-- a refusal's number and value; 0 and 0 for success
+abbrev pub numbers : Searched → ℕ × ℕ
+numbers (Refused number place) = (number, place)
+numbers (Found listing) = (0, 0)
+
+-- the figures of the listing, which success adds; all 0 after a refusal
+abbrev pub figures : Searched → Listing
+figures (Refused number place) = record { utility = 0; ceiling = 0; cost = 0; bound = 0; nodes = 0; entries = 0; steps = 0 }
+figures (Found listing) = listing
