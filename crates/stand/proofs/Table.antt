@@ -16,19 +16,25 @@ use Rattle.lent_lists.specs.Lists.{levelsShort, listsWrong}
 use Rattle.search_theory.specs.Plan.{planOf}
 use Rattle.search_theory.proofs.Table as sets
 use Rattle.walk.specs.Cases.{header, operator, fileP, fileQ, fileOf}
-use Rattle.walk.specs.Walk.{walkOf, reached, refused as stopped}
+use Rattle.walk.specs.declared.Fault.the-variants.{Operator, Precondition, Bound}
+use Rattle.walk.specs.declared.Walked.the-variants.{Reached}
+use Rattle.walk.specs.Walk.{walkOf, stopsAt}
+use Rattle.walk.specs.Answers.{numbers}
 use Rattle.walk.proofs.Cases.{checks, walks}
-use Rattle.search.specs.Search.{Lent, lent, Answer, refused, found, anyWrong, madeOf, setsOf, searchOf}
+use Rattle.search.specs.declared.answer.Searched.{Searched}
+use Rattle.search.specs.declared.answer.Searched.the-variants.{Refused, Found}
+use Rattle.search.specs.Lent.{Lent, lent}
+use Rattle.search.specs.Search.{anyWrong, madeOf, setsOf, searchOf}
 use Rattle.search.proofs.Table as searches
 use Rattle.stand.proofs.Files.{Holds, files}
 
--- v levels, n node entries, e utility entries and p steps are lent
+-- v levels, n node entries, e utility entries and p steps are lent, and working lists without an entry
 abbrev pub lists : ℕ → ℕ → ℕ → ℕ → Lent
-lists v n e p = lent (replicate v 0) (replicate n 0) (replicate n 0) (replicate n 0) (replicate e 0) (replicate e 0) (replicate e 0) (replicate p 0)
+lists v n e p = lent (replicate v 0) (replicate n 0) (replicate n 0) (replicate n 0) (replicate e 0) (replicate e 0) (replicate e 0) [] [] [] (replicate p 0)
 
 -- the figures of the listing
-abbrev pub figures : ℕ → ℕ → ℕ → ℕ → ℕ → ℕ → ℕ → Answer
-figures u c g b n e k = found (record { utility = u; ceiling = c; cost = g; bound = b; nodes = n; entries = e; steps = k })
+abbrev pub figures : ℕ → ℕ → ℕ → ℕ → ℕ → ℕ → ℕ → Searched
+figures u c g b n e k = Found (record { utility = u; ceiling = c; cost = g; bound = b; nodes = n; entries = e; steps = k })
 
 -- the search answers with utility u of c, cost g of b, nodes n and e; the plan that it hands over is p, and p is the best plan
 pub record Finds (f : List ℕ) (l : Lent) (u c g b n e : ℕ) (p : List ℕ) : Type 0 where
@@ -50,15 +56,15 @@ pub record Starred : Type 0 where
   -- P, b = 2: plan 1, 2; utility 3; cost 2
   pub P-2 : Finds (fileP 2) (lists 3 10 6 2) 3 3 2 2 10 6 (1 ∷ 2 ∷ [])
   -- P, b = 1 with 7 node entries: refused 14
-  pub nodes-7 : searchOf (fileP 1) (lists 2 7 6 1) ≡ refused 14 0
+  pub nodes-7 : searchOf (fileP 1) (lists 2 7 6 1) ≡ Refused 14 0
   -- P, b = 1 with a plan list of 0: refused 15
-  pub steps-0 : searchOf (fileP 1) (lists 2 8 6 0) ≡ refused 15 0
+  pub steps-0 : searchOf (fileP 1) (lists 2 8 6 0) ≡ Refused 15 0
   -- walk 1, 2 with b = 2: cost 2, utility 3
-  pub walk-1-2 : walkOf (fileP 2) (1 ∷ 0 ∷ 2 ∷ 0 ∷ []) ≡ reached 2 3
+  pub walk-1-2 : numbers (walkOf (fileP 2) (1 ∷ 0 ∷ 2 ∷ 0 ∷ [])) ≡ (0, 2, 3)
   -- walk 1, 2 with b = 1: 19 at step 1
-  pub walk-above : walkOf (fileP 1) (1 ∷ 0 ∷ 2 ∷ 0 ∷ []) ≡ stopped 19 1
+  pub walk-above : numbers (walkOf (fileP 1) (1 ∷ 0 ∷ 2 ∷ 0 ∷ [])) ≡ (19, 1, 0)
   -- walk 1, 1: 18 at step 1
-  pub walk-1-1 : walkOf (fileP 2) (1 ∷ 0 ∷ 1 ∷ 0 ∷ []) ≡ stopped 18 1
+  pub walk-1-1 : numbers (walkOf (fileP 2) (1 ∷ 0 ∷ 1 ∷ 0 ∷ [])) ≡ (18, 1, 0)
   -- Q, b = 5: plan 1, 2 at cost 4
   pub Q-5 : Finds (fileQ 5) (lists 6 8 6 2) 7 7 4 5 8 4 (1 ∷ 2 ∷ [])
   -- Q, b = 4: the same
@@ -69,17 +75,17 @@ pub record Starred : Type 0 where
 -- The others.
 pub record Unstarred : Type 0 where
   -- P, b = 1 with a level list of 1: refused 11
-  pub levels-1 : searchOf (fileP 1) (lists 1 8 6 1) ≡ refused 11 0
+  pub levels-1 : searchOf (fileP 1) (lists 1 8 6 1) ≡ Refused 11 0
   -- walk 3: 17 at step 0
-  pub walk-3 : walkOf (fileP 2) (3 ∷ 0 ∷ []) ≡ stopped 17 0
+  pub walk-3 : numbers (walkOf (fileP 2) (3 ∷ 0 ∷ [])) ≡ (17, 0, 0)
   -- 16 values accepted, 17 refused 7
-  pub values-16 : checkOf (fileOf 1 (16 ∷ 15 ∷ []) 30) ≡ (0, 0)
-  pub values-17 : checkOf (fileOf 1 (17 ∷ 0 ∷ []) 30) ≡ (7, 0)
+  pub values-16 : checkOf (fileOf 1 (16 ∷ 15 ∷ [])) ≡ (0, 0)
+  pub values-17 : checkOf (fileOf 1 (17 ∷ 0 ∷ [])) ≡ (7, 0)
   -- cost 0 refused 9
-  pub cost-0 : checkOf (header 1 1 0 0 30 66 66 ++ (2 ∷ 0 ∷ []) ++ operator 0 0 0 [] []) ≡ (9, 0)
+  pub cost-0 : checkOf (header 1 1 0 0 ++ (2 ∷ 0 ∷ []) ++ operator 0 0 0 [] []) ≡ (9, 0)
   -- 48 bits accepted, 49 refused 8
-  pub bits-48 : checkOf (fileOf 12 (sixteens 12) 52) ≡ (0, 0)
-  pub bits-49 : checkOf (fileOf 13 (sixteens 12 ++ (2 ∷ 0 ∷ [])) 54) ≡ (8, 0)
+  pub bits-48 : checkOf (fileOf 12 (sixteens 12)) ≡ (0, 0)
+  pub bits-49 : checkOf (fileOf 13 (sixteens 12 ++ (2 ∷ 0 ∷ []))) ≡ (8, 0)
 
 -- an accepted file and lists that pass 11 and 12 leave 13 to 15, which do not look at the level list
 due :
@@ -93,7 +99,7 @@ due v n e p h s w = rw (h .sound, h .task, s, w)
 
 -- an accepted file and a level list that does not pass 11
 short :
-    {f : List ℕ} {t : Task} (l : Lent) → Holds f t → levelsShort (length (l .levels)) (t .bound) ≡ true → searchOf f l ≡ refused 11 0
+    {f : List ℕ} {t : Task} (l : Lent) → Holds f t → levelsShort (length (l .levels)) (t .bound) ≡ true → searchOf f l ≡ Refused 11 0
 unfolding searchOf pick
 short l h s = rw (h .sound, h .task, s)
 
@@ -110,6 +116,18 @@ finds {p = p} h a r s = record {
   best = subst (λ x. Best x p) (sym (h .task)) s;
 }
 
+w12 : walkOf (fileP 2) (1 ∷ 0 ∷ 2 ∷ 0 ∷ []) ≡ Reached 2 3
+w12 = cc walks
+
+above : walkOf (fileP 1) (1 ∷ 0 ∷ 2 ∷ 0 ∷ []) ≡ stopsAt 1 Bound
+above = cc walks
+
+w11 : walkOf (fileP 2) (1 ∷ 0 ∷ 1 ∷ 0 ∷ []) ≡ stopsAt 1 Precondition
+w11 = cc walks
+
+w3 : walkOf (fileP 2) (3 ∷ 0 ∷ []) ≡ stopsAt 0 Operator
+w3 = cc walks
+
 pub starred : Starred
 unfolding levelsShort listsWrong anyWrong _or_ P Q
 starred = record {
@@ -118,9 +136,9 @@ starred = record {
   P-2 = finds (files .2) (due 3 10 6 2 (files .2) refl refl ∙ searches.P-with-2) (sets.P-2 .plan-is) (plan-rows .2 .plan);
   nodes-7 = due 2 7 6 1 (files .1) refl refl ∙ searches.P-nodes-7;
   steps-0 = due 2 8 6 0 (files .1) refl refl ∙ searches.P-plan-0;
-  walk-1-2 = cc walks;
-  walk-above = cc walks;
-  walk-1-1 = cc walks;
+  walk-1-2 = ap numbers w12;
+  walk-above = ap numbers above;
+  walk-1-1 = ap numbers w11;
   Q-5 = finds (files .5) (due 6 8 6 2 (files .5) refl refl ∙ searches.Q-with-5) (sets.Q-5 .plan-is) (plan-rows .5 .plan);
   Q-4 = finds (files .4) (due 5 8 6 2 (files .4) refl refl ∙ searches.Q-with-4) (sets.Q-4 .plan-is) (plan-rows .4 .plan);
   Q-3 = finds (files .3) (due 4 5 6 0 (files .3) refl refl ∙ searches.Q-with-3) (sets.Q-3 .plan-is) (plan-rows .3 .plan);
@@ -130,7 +148,7 @@ pub unstarred : Unstarred
 unfolding levelsShort P sixteens
 unstarred = record {
   levels-1 = short (lists 1 8 6 1) (files .1) refl;
-  walk-3 = cc walks;
+  walk-3 = ap numbers w3;
   values-16 = cc checks;
   values-17 = cc checks;
   cost-0 = cc checks;

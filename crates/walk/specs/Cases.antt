@@ -1,5 +1,5 @@
--- The stand tasks P and Q as the bytes of their files, for each bound below 256.
-use Prim.Native.Nat.{ℕ}
+-- The stand tasks P and Q as the bytes of their files, for each bound.
+use Prim.Native.Nat.{ℕ, _+_, _*_, _/_, _%_}
 use mathlib.Core.List.{List, [], _∷_, _++_}
 use lib.ListN.{take, replicate}
 
@@ -7,17 +7,21 @@ use lib.ListN.{take, replicate}
 abbrev padded : ℕ → List ℕ → List ℕ
 padded n bytes = take n (bytes ++ replicate n 0)
 
--- a number below 256 in two bytes, and in four
+-- a number below 65,536 in two bytes, low byte first, and in four
 abbrev two : ℕ → List ℕ
-two x = x ∷ 0 ∷ []
+two x = x % 256 ∷ x / 256 ∷ []
 
 abbrev four : ℕ → List ℕ
-four x = x ∷ 0 ∷ 0 ∷ 0 ∷ []
+four x = two x ++ (0 ∷ 0 ∷ [])
 
--- counts, bound, the sections' offsets and the length
-abbrev pub header : ℕ → ℕ → ℕ → ℕ → ℕ → ℕ → ℕ → List ℕ
-header v o t b atOperators atTerms length =
-    66 ∷ 80 ∷ 84 ∷ 49 ∷ two v ++ two o ++ two t ++ two b ++ four 28 ++ four atOperators ++ four atTerms ++ four length
+-- letters, counts, bound, the sections' offsets and the length, for a file of the given length
+abbrev headerOf : ℕ → ℕ → ℕ → ℕ → ℕ → ℕ → ℕ → List ℕ
+headerOf v o t b operatorsAt termsAt bytes =
+    66 ∷ 80 ∷ 84 ∷ 49 ∷ two v ++ two o ++ two t ++ two b ++ four 28 ++ four operatorsAt ++ four termsAt ++ four bytes
+
+-- the sections stand one behind the other
+abbrev pub header : ℕ → ℕ → ℕ → ℕ → List ℕ
+header v o t b = headerOf v o t b (28 + 2 * v) (28 + 2 * v + 36 * o) (28 + 2 * v + 36 * o + 12 * t)
 
 -- cost and counts, the preconditions, the effects
 abbrev pub operator : ℕ → ℕ → ℕ → List ℕ → List ℕ → List ℕ
@@ -29,7 +33,7 @@ term weight count facts = weight ∷ 0 ∷ count ∷ 0 ∷ padded 8 facts
 
 abbrev pub fileP : ℕ → List ℕ
 fileP b =
-    header 2 3 2 b 32 140 164
+    header 2 3 2 b
     ++ (2 ∷ 0 ∷ 2 ∷ 0 ∷ [])
     ++ operator 1 2 1 (0 ∷ 0 ∷ 1 ∷ 0 ∷ []) (1 ∷ 1 ∷ [])
     ++ operator 1 2 1 (0 ∷ 0 ∷ 1 ∷ 0 ∷ []) (0 ∷ 1 ∷ [])
@@ -39,7 +43,7 @@ fileP b =
 
 abbrev pub fileQ : ℕ → List ℕ
 fileQ b =
-    header 1 4 1 b 30 174 186
+    header 1 4 1 b
     ++ (3 ∷ 0 ∷ [])
     ++ operator 5 1 1 (0 ∷ 0 ∷ []) (0 ∷ 2 ∷ [])
     ++ operator 2 1 1 (0 ∷ 0 ∷ []) (0 ∷ 1 ∷ [])
@@ -47,6 +51,15 @@ fileQ b =
     ++ operator 4 1 1 (0 ∷ 0 ∷ []) (0 ∷ 2 ∷ [])
     ++ term 7 1 (0 ∷ 2 ∷ [])
 
--- variables and nothing else, in a file of so many bytes
-abbrev pub fileOf : ℕ → List ℕ → ℕ → List ℕ
-fileOf count variables length = header count 0 0 0 length length length ++ variables
+-- so many variables and nothing else
+abbrev pub fileOf : ℕ → List ℕ → List ℕ
+fileOf count variables = header count 0 0 0 ++ variables
+
+-- variables of 3 and 4 values, two operators and a term; operator 1 has no precondition, and the fact 0, 0 as its effect
+abbrev pub filePlain : List ℕ
+filePlain =
+    header 2 2 1 5
+    ++ (3 ∷ 1 ∷ 4 ∷ 0 ∷ [])
+    ++ operator 2 2 1 (0 ∷ 1 ∷ 1 ∷ 0 ∷ []) (1 ∷ 3 ∷ [])
+    ++ operator 1 0 1 [] (0 ∷ 0 ∷ [])
+    ++ term 7 2 (0 ∷ 1 ∷ 1 ∷ 3 ∷ [])
