@@ -3,9 +3,15 @@
 use search::answer::Listing;
 use search::answer::Searched;
 use search::search::search;
+use task::check::operator;
 use task::records::cost;
-use task::records::operator_record;
-ghost use Prim.Native.Nat.{_<_};
+ghost use mathlib.Core.Path.{_≡_};
+ghost use Prim.Native.Nat.{_≤_};
+ghost use lib.ListN.{length};
+ghost use Rattle.task.specs.Bytes.{Reads};
+ghost use Rattle.task.specs.Format.{cost};
+ghost use Rattle.task.specs.Check.{operatorPart};
+ghost use Rattle.osp_list.specs.Fits.{Fits};
 
 // One byte more than a task file may have, so that a longer input is refused for its length.
 const MOST_BYTES: usize = 16385;
@@ -38,28 +44,24 @@ fn print_step(step: usize, operator: u16, cost: usize, so_far: usize) {
     print_pair(b" ", cost as u64, b" ", so_far as u64);
 }
 
-// The cost of an operator of the file.
-fn operator_cost(file: &[u8], operator: u16) -> usize
-    ensures { λ r. ⌜ r < 65536 ⌝ }
+// The cost of an operator of the file, from its record.
+fn operator_cost(file: &[u8], o: u16) -> usize
+    ensures { λ r. ⌜ Reads r (cost (operatorPart (now (file .entry)) o)) 65536 ⌝ }
 {
-    cost(operator_record(file, operator as usize))
+    cost(operator(file, o as usize))
 }
 
 // The lines of the first n steps of the plan.
-fn print_steps(file: &[u8], plan: &[u16], n: usize) {
+fn print_steps(file: &[u8], plan: &[u16], n: usize)
+    requires { ⌜ (n ≤ length (now plan)) × (n ≤ 4096) ⌝ }
+{
     let mut so_far = 0;
     let mut k = 0;
-    while k < STEPS {
-        if n <= k {
-            return;
-        }
-        if plan.len() <= k {
-            return;
-        }
-        let operator = plan[k];
-        let cost = operator_cost(file, operator);
+    while k < n {
+        let o = plan[k];
+        let cost = operator_cost(file, o);
         so_far += cost;
-        print_step(k, operator, cost, so_far);
+        print_step(k, o, cost, so_far);
         k += 1;
     }
 }
@@ -80,7 +82,9 @@ fn print_figures(found: Listing) {
 }
 
 // The listing, or the refusal with its two numbers.
-fn print_answer(file: &[u8], plan: &[u16], answer: Searched) {
+fn print_answer(file: &[u8], plan: &[u16], answer: Searched)
+    requires { ⌜ Fits answer (length (now plan)) × (length (now plan) ≤ 4096) ⌝ }
+{
     match answer {
         Searched::Refused { number, place } => {
             print_pair(b"refused ", number as u64, b" ", place as u64);

@@ -1,6 +1,9 @@
 -- `osp_list::run` is safe: each list is lent with the length that it was made with, and the search keeps the plan's.
 use borrow.Author.Needs.{needs}
+use native.Mathlib.Omega.{arith}
 use mathlib.Core.Path.{sym, _∙_}
+use lib.ListN.{length-replicate}
+use Rattle.osp_list.proofs.Found.{fits}
 use Rattle.osp_list.proofs.run.Statement.{statement}
 use Rattle.osp_list.proofs.run.Tie as tie
 
@@ -40,11 +43,17 @@ slice-aggregate-search-11 c = search needs
 search-requires : tie.Need-search-requires
 search-requires c κs = tt
 
+-- the call of the search
+abbrev called : tie.After-plan3 → tie.After-search
+called c = c .before .before .before .before .before .before .before .before .before .before .before .before
+
 slice-aggregate-print-answer : tie.Need-slice-aggregate-print-answer
-slice-aggregate-print-answer c = slice-aggregate-search-11 (c .before .before .before .before .before .before .before .before .before .before .before .before .before) ∙ sym (c .before .before .before .before .before .before .before .before .before .before .before .before .search .kept .1 .1 .1 .1 .1 .1 .1 .1 .1 .1 .1 .0)
+slice-aggregate-print-answer c = slice-aggregate-search-11 (called c .before) ∙ sym (called c .search .kept .1 .1 .1 .1 .1 .1 .1 .1 .1 .1 .1 .0)
 
 print-answer-requires : tie.Need-print-answer-requires
-print-answer-requires c κs = tt
+print-answer-requires c κs =
+    let e = called c .search .kept .1 .1 .1 .1 .1 .1 .1 .1 .1 .1 .1 .0 in
+    (fits _ _ _ _ _ (called c .search .ensures) (sym e), simp e (simp length-replicate (omega arith)))
 
 returns : tie.Need-returns
 returns c = tt
