@@ -2,8 +2,8 @@
 use stand::refused;
 use task::check::Checked;
 use task::check::check;
-use walk::Fault;
 use walk::Walked;
+use walk::fault_number;
 use walk::walk;
 
 // The file check's answer.
@@ -25,15 +25,6 @@ pub fn checked_first(name: &[u8], bytes: &[u8], n: usize) {
     }
 }
 
-// The number of a step's fault.
-fn number(fault: Fault) -> u64 {
-    match fault {
-        Fault::Operator => 17,
-        Fault::Precondition => 18,
-        Fault::Bound => 19,
-    }
-}
-
 // The walk's answer.
 pub fn walked(name: &[u8], file: &[u8], plan: &[u8]) {
     io::write_all(1, name);
@@ -43,7 +34,7 @@ pub fn walked(name: &[u8], file: &[u8], plan: &[u8]) {
         Walked::Odd => refused(16, 0),
         Walked::Stopped(stop) => {
             let fault = stop.fault;
-            refused(number(fault), stop.step as u64);
+            refused(fault_number(fault), stop.step as u64);
         }
         Walked::Reached { cost, utility } => {
             io::write_all(1, b"cost ");
@@ -53,4 +44,22 @@ pub fn walked(name: &[u8], file: &[u8], plan: &[u8]) {
             io::write_all(1, b"\n");
         }
     }
+}
+
+// A byte, behind a space.
+fn byte(x: u8) {
+    io::write_all(1, b" ");
+    io::print_decimal(1, x as u64);
+}
+
+// The bytes of a part of a file.
+pub fn part(name: &[u8], bytes: &[u8]) {
+    io::write_all(1, name);
+    io::write_all(1, b":");
+    let mut i = 0;
+    while i < bytes.len() {
+        byte(bytes[i]);
+        i += 1;
+    }
+    io::write_all(1, b"\n");
 }

@@ -23,6 +23,7 @@ ghost use Rattle.task.specs.Limits.{mostVariables};
 ghost use Rattle.task.specs.Format.{variables};
 ghost use Rattle.task.specs.Decode.{taskOf};
 ghost use Rattle.walk.specs.Walk.{walkFrom, walkOf, steps};
+ghost use Rattle.walk.specs.Answers.{faultNumber};
 
 // What is wrong with a step.
 pub enum Fault {
@@ -32,6 +33,17 @@ pub enum Fault {
     Precondition,
     // The cost so far is above the bound.
     Bound,
+}
+
+// Document 01's number of a fault.
+pub fn fault_number(fault: Fault) -> u64
+    ensures { λ r. ⌜ r ≡ faultNumber fault ⌝ }
+{
+    match fault {
+        Fault::Operator => 17,
+        Fault::Precondition => 18,
+        Fault::Bound => 19,
+    }
 }
 
 // The first step that fails, and the fault found there.
