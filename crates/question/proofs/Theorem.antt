@@ -11,7 +11,7 @@ use Rattle.planning.specs.Model.{Task}
 use Rattle.planning.specs.Coding.{code}
 use Rattle.planning.specs.Best.{Cheapest}
 use Rattle.planning.specs.Good.{Good}
-use Rattle.planning.proofs.Tests.{T-true}
+use Rattle.planning.proofs.Connectives.{T-true}
 use Rattle.planning.proofs.Guards.{pick-yes, pick-no}
 use Rattle.planning.proofs.Theorems.{cheapest-unique}
 use Rattle.diagrams.specs.Tree.{Tree, trees, member}

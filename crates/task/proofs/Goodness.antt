@@ -8,7 +8,7 @@ use native.Mathlib.Nat.{zero-add, add-zero, not-suc-le-zero, le-of-suc-le-suc}
 use lib.ListN.{length, getD}
 use Rattle.planning.specs.Model.{Fact, Operator, Term, operatorAt}
 use Rattle.planning.specs.Scan.{tab}
-use Rattle.planning.specs.Coding.{Valid, Right, Facts}
+use Rattle.planning.specs.Coding.{Valid, UsedFact, Facts}
 use Rattle.planning.specs.Good.{Terms, Good}
 use Rattle.task.specs.Format.{variables, operators, terms, size, startValue, operatorRecord, termRecord, factVariable, factValue}
 use Rattle.task.specs.Decode.{factAt, facts, operatorIn, termIn, sizes, taskOf}
@@ -67,7 +67,7 @@ module _ (f fs : List ℕ) (used : ℕ) (r : RightRow f fs used) where
   row-from zero k low e h = tt
   row-from (suc n) k low e h =
       let x = r .facts k (omega arith) in
-      let here : Right (sizes f) (factAt fs k) = record { var = rw (length-sizes f) (x .names); val = rw (size-at f (factVariable fs k) (x .names)) (x .has) } in
+      let here : UsedFact (sizes f) (factAt fs k) = record { var = rw (length-sizes f) (x .names); val = rw (size-at f (factVariable fs k) (x .names)) (x .has) } in
       (h (omega arith), here, row-from n (suc k) (suc (factVariable fs k)) (omega arith) (λ l. r .rise k (omega arith)))
 
   pub facts-right : Facts (sizes f) 0 (facts fs used)
@@ -95,8 +95,8 @@ module _ (f : List ℕ) (a : accepted f ≡ true) where
   unfolding taskOf
   good-terms = terms-tab (sizes f) (termIn f) (terms f) 0 (λ t l u. facts-right f _ _ (sound f a .term t (omega arith) .facts))
 
-  good-costly : (o : ℕ) → o < length (taskOf f .operators) → 1 ≤ operatorAt (taskOf f .operators) o .cost
-  good-costly o h = rw (operator-at f o (below o h)) (sound f a .operator o (below o h) .cheapest)
+  good-costs : (o : ℕ) → o < length (taskOf f .operators) → 1 ≤ operatorAt (taskOf f .operators) o .cost
+  good-costs o h = rw (operator-at f o (below o h)) (sound f a .operator o (below o h) .cheapest)
 
   pub good : Good (taskOf f)
   good =
@@ -105,5 +105,5 @@ module _ (f : List ℕ) (a : accepted f ≡ true) where
         pres = good-preconditions;
         effs = good-effects;
         terms = good-terms;
-        costs = good-costly;
+        costs = good-costs;
       }
