@@ -7,41 +7,41 @@ use Rattle.planning.specs.Connectives.{_and_, _or_, pick}
 use Rattle.planning.specs.Model.{Task, valueOf, holds, apply, stateUtility, ceiling, operatorAt, canApply, next, applicable, end, cost, utility}
 use Rattle.planning.specs.Best.{PositiveCosts, Best}
 use Rattle.planning.specs.Exhaustive.{prefix, beginning, sequences, noLater, better, choose, best}
-use Rattle.planning.specs.Cases.{fact, P, Q, Row}
+use Rattle.planning.specs.Cases.{fact, P, Q, PlanRow}
 use Rattle.planning.proofs.Theorems.{best-exists}
 
-pub P-costly : (b : ℕ) → PositiveCosts (P b)
+P-positive : (b : ℕ) → PositiveCosts (P b)
 unfolding P operatorAt
-P-costly b zero h = omega arith
-P-costly b (suc zero) h = omega arith
-P-costly b (suc (suc zero)) h = omega arith
-P-costly b (suc (suc (suc o))) h = absurd (omega arith)
+P-positive b zero h = omega arith
+P-positive b (suc zero) h = omega arith
+P-positive b (suc (suc zero)) h = omega arith
+P-positive b (suc (suc (suc o))) h = absurd (omega arith)
 
-pub Q-costly : (b : ℕ) → PositiveCosts (Q b)
+Q-positive : (b : ℕ) → PositiveCosts (Q b)
 unfolding Q operatorAt
-Q-costly b zero h = omega arith
-Q-costly b (suc zero) h = omega arith
-Q-costly b (suc (suc zero)) h = omega arith
-Q-costly b (suc (suc (suc zero))) h = omega arith
-Q-costly b (suc (suc (suc (suc o)))) h = absurd (omega arith)
+Q-positive b zero h = omega arith
+Q-positive b (suc zero) h = omega arith
+Q-positive b (suc (suc zero)) h = omega arith
+Q-positive b (suc (suc (suc zero))) h = omega arith
+Q-positive b (suc (suc (suc (suc o)))) h = absurd (omega arith)
 
-row : (t : Task) (p : List ℕ) (u top c : ℕ) → PositiveCosts t → best t ≡ p → utility t p ≡ u → ceiling (t .terms) ≡ top → cost t p ≡ c → Row t p u top c
+row : (t : Task) (p : List ℕ) (u top c : ℕ) → PositiveCosts t → best t ≡ p → utility t p ≡ u → ceiling (t .terms) ≡ top → cost t p ≡ c → PlanRow t p u top c
 row t p u top c pos e f g h = record { plan = subst (Best t) e (best-exists t pos); found = e; utility = f; most = g; costs = h }
 
 -- task and bound; plan, utility of the ceiling, cost
 pub plan-rows :
-    Row (P 0) [] 0 3 0
-    × Row (P 1) (1 ∷ []) 2 3 1
-    × Row (P 2) (1 ∷ 2 ∷ []) 3 3 2
-    × Row (Q 3) [] 0 7 0
-    × Row (Q 4) (1 ∷ 2 ∷ []) 7 7 4
-    × Row (Q 5) (1 ∷ 2 ∷ []) 7 7 4
+    PlanRow (P 0) [] 0 3 0
+    × PlanRow (P 1) (1 ∷ []) 2 3 1
+    × PlanRow (P 2) (1 ∷ 2 ∷ []) 3 3 2
+    × PlanRow (Q 3) [] 0 7 0
+    × PlanRow (Q 4) (1 ∷ 2 ∷ []) 7 7 4
+    × PlanRow (Q 5) (1 ∷ 2 ∷ []) 7 7 4
 unfolding _and_ _or_ pick valueOf holds apply stateUtility ceiling operatorAt canApply next applicable end cost utility prefix beginning sequences noLater better choose best fact P Q
 plan-rows = (
-  row (P 0) [] 0 3 0 (P-costly 0) refl refl refl refl,
-  row (P 1) (1 ∷ []) 2 3 1 (P-costly 1) refl refl refl refl,
-  row (P 2) (1 ∷ 2 ∷ []) 3 3 2 (P-costly 2) refl refl refl refl,
-  row (Q 3) [] 0 7 0 (Q-costly 3) refl refl refl refl,
-  row (Q 4) (1 ∷ 2 ∷ []) 7 7 4 (Q-costly 4) refl refl refl refl,
-  row (Q 5) (1 ∷ 2 ∷ []) 7 7 4 (Q-costly 5) refl refl refl refl,
+  row (P 0) [] 0 3 0 (P-positive 0) refl refl refl refl,
+  row (P 1) (1 ∷ []) 2 3 1 (P-positive 1) refl refl refl refl,
+  row (P 2) (1 ∷ 2 ∷ []) 3 3 2 (P-positive 2) refl refl refl refl,
+  row (Q 3) [] 0 7 0 (Q-positive 3) refl refl refl refl,
+  row (Q 4) (1 ∷ 2 ∷ []) 7 7 4 (Q-positive 4) refl refl refl refl,
+  row (Q 5) (1 ∷ 2 ∷ []) 7 7 4 (Q-positive 5) refl refl refl refl,
 )

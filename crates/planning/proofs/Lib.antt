@@ -1,9 +1,9 @@
 -- The theory of levels, wanted sets and best plans, over any rank; the laws of the coding; and the theorems about a task's best plan.
-pub mod Tests
+pub mod Connectives
 pub mod Runs
 pub mod Levels
 pub mod Greedy
-pub mod Walk
+pub mod Optimum
 pub mod Ranks
 pub mod Sim
 pub mod Widths

@@ -3,8 +3,7 @@ use Prim.Native.Nat.{ℕ, zero, suc, _+_, _^_, _≤_, _<_}
 use mathlib.Core.Path.{_≡_, refl}
 use mathlib.Core.Bool.{Bool, true, false}
 use native.Mathlib.Omega.{arith}
-use native.Mathlib.Decide.{ℕ-discrete, decLe}
-use lib.Pow.{pow-mono}
+use native.Mathlib.Decide.{ℕ-discrete}
 use lib.Dec.{leb}
 use borrow.Author.Tests.{leb-true, leb-false}
 use Rattle.planning.specs.Connectives.{pick}
@@ -45,31 +44,3 @@ wide-least (suc f) w d k le h = by (leb d (2 ^ w)) refl (λ x. wide-least f (suc
 pub width-least : (d k : ℕ) → d ≤ 2 ^ k → width d ≤ k
 unfolding width
 width-least d k h = wide-least d 0 d k (omega arith) h
-
-pub width-is : (d k : ℕ) → 2 ^ k < d → d ≤ 2 ^ suc k → width d ≡ suc k
-width-is d k low high = by (decLe (width d) k)
-  where
-    by : Dec (width d ≤ k) → width d ≡ suc k
-    by (yes h) = absurd (omega (arith, width-fits d, pow-mono h))
-    by (no h) = omega (arith, width-least d (suc k) high)
-
--- 1 for 2, 2 for 3 or 4, 3 for 5 to 8, 4 for 9 to 16
-pub width-2 : width 2 ≡ 1
-width-2 = width-is 2 0 (omega arith) (omega arith)
-
-pub width-4 : (d : ℕ) → 3 ≤ d → d ≤ 4 → width d ≡ 2
-width-4 d low high = width-is d 1 (omega arith) (omega arith)
-
-pub width-8 : (d : ℕ) → 5 ≤ d → d ≤ 8 → width d ≡ 3
-width-8 d low high = width-is d 2 (omega arith) (omega arith)
-
-pub width-16 : (d : ℕ) → 9 ≤ d → d ≤ 16 → width d ≡ 4
-width-16 d low high = width-is d 3 (omega arith) (omega arith)
-
--- a variable of 2 to 16 values has 1 to 4 bits
-pub width-range : (d : ℕ) → 2 ≤ d → d ≤ 16 → (1 ≤ width d) × (width d ≤ 4)
-width-range d low high = (by (decLe (width d) 0), width-least d 4 (omega arith))
-  where
-    by : Dec (width d ≤ 0) → 1 ≤ width d
-    by (yes h) = absurd (omega (arith, width-fits d, pow-mono h))
-    by (no h) = omega arith

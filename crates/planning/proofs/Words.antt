@@ -20,7 +20,7 @@ shr-suc x k = let e : suc k ≡ 1 + k = omega arith in rw e (sym (shr-shr x 1 k)
 pub bit-zero : (x : ℕ) → x / 2 ^ 0 % 2 ≡ x % 2
 bit-zero x = ap (λ z. z % 2) (div-one x)
 
-pub zero-bit : (k : ℕ) → 0 / 2 ^ k % 2 ≡ 0
+zero-bit : (k : ℕ) → 0 / 2 ^ k % 2 ≡ 0
 zero-bit k = ap (λ z. z % 2) (zero-div (2 ^ k))
 
 pub bit-le : (b : Bool) → pick b 1 0 ≤ 1
@@ -32,14 +32,6 @@ pub bit-eqb : (b : Bool) → eqb (pick b 1 0) 1 ≡ b
 unfolding pick
 bit-eqb true = refl
 bit-eqb false = refl
-
--- numbers of n bits with the same bits are the same
-pub bits-ext : (n a b : ℕ) → a < 2 ^ n → b < 2 ^ n → ((k : ℕ) → k < n → a / 2 ^ k % 2 ≡ b / 2 ^ k % 2) → a ≡ b
-bits-ext zero a b h k e = omega arith
-bits-ext (suc n) a b h k e =
-    let low : a % 2 ≡ b % 2 = sym (bit-zero a) ∙ e 0 (omega arith) ∙ bit-zero b in
-    let high : a / 2 ≡ b / 2 = bits-ext n (a / 2) (b / 2) (omega (arith, pow-step 2 n)) (omega (arith, pow-step 2 n)) (λ j lt. rw (shr-suc a j, shr-suc b j) at (e (suc j) (omega arith))) in
-    omega arith
 
 -- ---- lists of bits
 

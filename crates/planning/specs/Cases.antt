@@ -38,8 +38,8 @@ Q b = record {
   bound = b;
 }
 
--- a row: the best plan p, its utility u of the ceiling, and its cost c; trying every sequence finds it
-pub record Row (t : Task) (p : List ℕ) (u top c : ℕ) : Type 0 where
+-- a row of the table of plans: the best plan p, its utility u of the ceiling, and its cost c; trying every sequence finds it
+pub record PlanRow (t : Task) (p : List ℕ) (u top c : ℕ) : Type 0 where
   pub plan : Best t p
   pub found : best t ≡ p
   pub utility : utility t p ≡ u

@@ -1,4 +1,5 @@
--- The connectives of the definitions. They are shut, so that a law of one fits where it stands.
+-- Boolean and, or and if-then-else, for the definitions. Unlike the library's they do not unfold by themselves, so that a law about one
+-- of them applies where it stands.
 use mathlib.Core.Bool.{Bool, true, false}
 
 infixr 35 _and_

@@ -7,7 +7,7 @@ use lib.Dec.{ltb}
 use Rattle.planning.specs.Connectives.{pick}
 use Rattle.planning.specs.Model.{ceiling}
 use Rattle.planning.specs.Cases.{fact, P, Q}
-use Rattle.search_theory.proofs.Table.{Row, P-0, P-1, P-2, Q-3, Q-4, Q-5}
+use Rattle.search_theory.proofs.Table.{P-0, P-1, P-2, Q-3, Q-4, Q-5}
 use Rattle.utility.proofs.Cases.{entries-P, entries-Q}
 use Rattle.search.specs.declared.answer.Searched.{Searched}
 use Rattle.search.specs.declared.answer.Searched.the-variants.{Refused, Found}

@@ -1,6 +1,6 @@
 -- Laws of the sets made, demands 2 and 3, and document 01's starred cases.
 pub mod Table
-pub mod Tests
+pub mod Connectives
 pub mod Bits
 pub mod Members
 pub mod Links
