@@ -9,7 +9,7 @@
 #include <stdio.h>
 #include <stdlib.h>
 
-enum { FILE_MOST = 16384, ENTRIES = 1048576, LEVELS = 4096, STEPS = 4096, MEMO = 4 * ENTRIES };
+enum { FILE_MOST = 16384, ENTRIES = 1048576, LEVELS = 4096, STEPS = 4096, MEMO = 4 * ENTRIES + 4100 };
 
 /* A list of so many 32-bit numbers. What they hold before a search does not matter. */
 static uint32_t *list(size_t count)

@@ -11,13 +11,21 @@
  *   and number of entries; two lent lists never share memory.
  *
  * Answers
- *   `number` is 0 for success, else a refusal's number (enum laurelsnap_refusal). The two values are
- *     file check, passed      0, 0
- *     walk, succeeded         cost, utility of the state reached
- *     1 to 6, 8 and 16        0, 0
- *     7, 9 and 10             the record's number, 0
- *     17, 18 and 19           the step's number, 0
+ *   `number` is 0 for success, else a refusal's number (enum laurelsnap_refusal). The two values, `first` and `second`, are
+ *     file check, passed           0, 0
+ *     walk, succeeded              cost, utility of the state reached
+ *     question, reached            the least cost, 1
+ *     question, not reached        0, 0
+ *     7, 9 and 10                  the record's number, 0
+ *     17, 18 and 19                the step's number, 0
+ *     any other refusal            0, 0
+ *   A search's answer (struct laurelsnap_found) has one value, the same as `first` above, and 0 for success; then the listing's figures.
  *   Records and steps are counted from 0. Only the first fault is told.
+ *
+ * What a refusal leaves as it was
+ *     1 to 12, 16 to 21            every list, the working lists too
+ *     13                           level list, node lists and plan
+ *     14 and 15                    the plan
  */
 #ifndef LAURELSNAP_H
 #define LAURELSNAP_H
@@ -80,7 +88,7 @@ static inline uint64_t laurelsnap_step(struct laurelsnap_answer answer) { return
 static inline uint64_t laurelsnap_cost(struct laurelsnap_answer answer) { return answer.first; }
 static inline uint64_t laurelsnap_utility(struct laurelsnap_answer answer) { return answer.second; }
 
-/* What a search reports: number and value as above (0, 0 for success), then the listing's figures, all 0 after a refusal. */
+/* What a search reports: number and value as above, then the listing's figures, all 0 after a refusal. */
 struct laurelsnap_found {
     uint64_t number;
     uint64_t value;

@@ -16,7 +16,7 @@ use Rattle.lent_lists.specs.Lists.{mostEntries, listsWrong, nameRight, c
 
 -- ---- the lengths
 -- neither test holds where their disjunction does not
-or-neither : (a b : Bool) → (a or b) ≡ false → (a ≡ false) × (b ≡ false)
+pub or-neither : (a b : Bool) → (a or b) ≡ false → (a ≡ false) × (b ≡ false)
 unfolding _or_
 or-neither true b h = absurd (true≢false h)
 or-neither false b h = (refl, h)

@@ -5,16 +5,17 @@ use search::answer::Searched;
 use search::search::search;
 use task::check::Checked;
 use task::check::check;
-use walk::Fault;
 use walk::Walked;
+use walk::fault_number;
 use walk::walk;
 ghost use mathlib.Core.Path.{_≡_};
 ghost use Rattle.task.specs.Check.{checkOf};
-ghost use Rattle.walk.specs.Walk.{walkOf, refused};
-ghost use Rattle.walk.specs.Answers.{faultNumber};
-ghost use Rattle.supervisor.specs.Reports.{reported, checkReport, walkReport, questionReport, Reports};
+ghost use Rattle.walk.specs.Walk.{walkOf};
+ghost use Rattle.walk.specs.Answers.{numbers as walkNumbers};
+ghost use Rattle.search.specs.Lent.{lent};
 ghost use Rattle.question.specs.Question.{questionOf};
-ghost use Rattle.search.specs.Search.{lent};
+ghost use Rattle.question.specs.Answers.{numbers as questionNumbers};
+ghost use Rattle.supervisor.specs.Reports.{reported, checkNumbers, Reports};
 
 // An answer as C gets it: document 01's number, and two values.
 #[repr(C)]
@@ -24,56 +25,41 @@ pub struct Report {
     pub second: u64,
 }
 
-// A refusal with its number and value; the number 0 says that a file passes the check.
-fn refusal(number: u64, value: u64) -> Report
-    ensures { λ r. ⌜ reported r ≡ walkReport (refused number value) ⌝ }
+// A number and two values.
+fn reply(number: u64, first: u64, second: u64) -> Report
+    ensures { λ r. ⌜ reported r ≡ (number, first, second) ⌝ }
 {
     Report {
         number,
-        first: value,
-        second: 0,
-    }
-}
-
-// The number of a step's fault.
-fn fault_number(fault: Fault) -> u64
-    ensures { λ r. ⌜ r ≡ faultNumber fault ⌝ }
-{
-    match fault {
-        Fault::Operator => 17,
-        Fault::Precondition => 18,
-        Fault::Bound => 19,
+        first,
+        second,
     }
 }
 
 // The file check: 0, or the refusal's number and value.
 #[no_mangle]
 pub extern "C" fn laurelsnap_check(file: &[u8]) -> Report
-    ensures { λ r. ⌜ reported r ≡ checkReport (checkOf (now (file .entry))) ⌝ }
+    ensures { λ r. ⌜ reported r ≡ checkNumbers (checkOf (now (file .entry))) ⌝ }
 {
     match check(file) {
-        Checked::Accepted => refusal(0, 0),
-        Checked::Refused { number, place } => refusal(number as u64, place as u64),
+        Checked::Accepted => reply(0, 0, 0),
+        Checked::Refused { number, place } => reply(number as u64, place as u64, 0),
     }
 }
 
 // The walk of a plan: 0, cost and utility, or the refusal's number and value.
 #[no_mangle]
 pub extern "C" fn laurelsnap_walk(file: &[u8], plan: &[u8]) -> Report
-    ensures { λ r. ⌜ reported r ≡ walkReport (walkOf (now (file .entry)) (now (plan .entry))) ⌝ }
+    ensures { λ r. ⌜ reported r ≡ walkNumbers (walkOf (now (file .entry)) (now (plan .entry))) ⌝ }
 {
     match walk(file, plan) {
-        Walked::Unread { number, place } => refusal(number as u64, place as u64),
-        Walked::Odd => refusal(16, 0),
+        Walked::Unread { number, place } => reply(number as u64, place as u64, 0),
+        Walked::Odd => reply(16, 0, 0),
         Walked::Stopped(stop) => {
             let fault = stop.fault;
-            refusal(fault_number(fault), stop.step as u64)
+            reply(fault_number(fault), stop.step as u64, 0)
         }
-        Walked::Reached { cost, utility } => Report {
-            number: 0,
-            first: cost as u64,
-            second: utility as u64,
-        },
+        Walked::Reached { cost, utility } => reply(0, cost as u64, utility as u64),
     }
 }
 
@@ -107,7 +93,12 @@ pub extern "C" fn laurelsnap_search(
     memo: &mut [u32],
     plan: &mut [u16],
 ) -> Totals
-    ensures { λ r. ⌜ Reports (now (file .entry)) (lent (now (levels .entry)) (now (bit .entry)) (now (low .entry)) (now (high .entry)) (now (ubit .entry)) (now (ulow .entry)) (now (uhigh .entry)) (now (plan .entry))) (lent (now (levels .exit)) (now (bit .exit)) (now (low .exit)) (now (high .exit)) (now (ubit .exit)) (now (ulow .exit)) (now (uhigh .exit)) (now (plan .exit))) r ⌝ }
+    ensures { λ r.
+        let before = lent (now (levels .entry)) (now (bit .entry)) (now (low .entry)) (now (high .entry)) (now (ubit .entry)) (now (ulow .entry)) (now (uhigh .entry))
+        (now (heads .entry)) (now (chain .entry)) (now (memo .entry)) (now (plan .entry)) in
+        let after = lent (now (levels .exit)) (now (bit .exit)) (now (low .exit)) (now (high .exit)) (now (ubit .exit)) (now (ulow .exit)) (now (uhigh .exit))
+        (now (heads .exit)) (now (chain .exit)) (now (memo .exit)) (now (plan .exit)) in
+        ⌜ Reports (now (file .entry)) before after r ⌝ }
 {
     match search(
         file,
@@ -159,15 +150,13 @@ pub extern "C" fn laurelsnap_question(
     high: &[u32],
     count: usize,
 ) -> Report
-    ensures { λ r. ⌜ reported r ≡ questionReport (questionOf (now (file .entry)) (now (state .entry)) (now (levels .entry)) (now (bit .entry)) (now (low .entry)) (now (high .entry)) count) ⌝ }
+    ensures { λ r.
+        let answer = questionOf (now (file .entry)) (now (state .entry)) (now (levels .entry)) (now (bit .entry)) (now (low .entry)) (now (high .entry)) count in
+        ⌜ reported r ≡ questionNumbers answer ⌝ }
 {
     match question(file, state, levels, bit, low, high, count) {
-        Answered::Refused { number, place } => refusal(number as u64, place as u64),
-        Answered::Least { cost } => Report {
-            number: 0,
-            first: cost as u64,
-            second: 1,
-        },
-        Answered::NotReached => refusal(0, 0),
+        Answered::Refused { number, place } => reply(number as u64, place as u64, 0),
+        Answered::Least { cost } => reply(0, cost as u64, 1),
+        Answered::NotReached => reply(0, 0, 0),
     }
 }

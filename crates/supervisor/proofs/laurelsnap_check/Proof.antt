@@ -1,5 +1,9 @@
+-- Each case of the answer is reported with its number and value.
 use borrow.Author.Needs.{needs}
-use Rattle.supervisor.proofs.Reports.{check-is}
+use mathlib.Core.Path.{ap}
+use Rattle.task.specs.Answers.{answer}
+use Rattle.supervisor.specs.Reports.{checkNumbers}
+use Rattle.supervisor.proofs.Reports.{case-is}
 use Rattle.supervisor.proofs.laurelsnap_check.Statement.{statement}
 use Rattle.supervisor.proofs.laurelsnap_check.Tie as tie
 
@@ -9,26 +13,26 @@ check-requires c κs = search needs
 enum-told : tie.Need-enum-told
 enum-told c = search needs
 
-refusal-requires : tie.Need-refusal-requires
-refusal-requires c κs = search needs
+reply-requires : tie.Need-reply-requires
+reply-requires c κs = search needs
 
 enum-known-number : tie.Need-enum-known-number
 enum-known-number c = search needs
 
-cast-refusal : tie.Need-cast-refusal
-cast-refusal c = search needs
+cast-reply : tie.Need-cast-reply
+cast-reply c = search needs
 
-cast-refusal-2 : tie.Need-cast-refusal-2
-cast-refusal-2 c = search needs
+cast-reply-2 : tie.Need-cast-reply-2
+cast-reply-2 c = search needs
 
-refusal-requires-2 : tie.Need-refusal-requires-2
-refusal-requires-2 c κs = search needs
+reply-requires-2 : tie.Need-reply-requires-2
+reply-requires-2 c κs = search needs
 
 returns : tie.Need-returns
-returns c = check-is _ _ _ _ (c .before .enum-told .given .1) (c .before .before .before .check .ensures .0) (c .refusal .ensures)
+returns c = case-is checkNumbers _ _ _ _ (ap answer (c .before .enum-told .given .1)) (c .before .before .before .check .ensures .0) (c .reply .ensures)
 
 returns-2 : tie.Need-returns-2
-returns-2 c = check-is _ _ _ _ (c .before .before .number .given .1) (c .before .before .before .before .check .ensures .0) (c .refusal2 .ensures)
+returns-2 c = case-is checkNumbers _ _ _ _ (ap answer (c .before .before .number .given .1)) (c .before .before .before .before .check .ensures .0) (c .reply2 .ensures)
 
 pub laurelsnap-check-spec : {M : Type 1} → statement M
 laurelsnap-check-spec =
@@ -36,10 +40,10 @@ laurelsnap-check-spec =
     (tie.spec
     check-requires
     enum-told
-    refusal-requires
+    reply-requires
     enum-known-number
-    cast-refusal
-    cast-refusal-2
-    refusal-requires-2
+    cast-reply
+    cast-reply-2
+    reply-requires-2
     returns
     returns-2)
