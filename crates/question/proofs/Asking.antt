@@ -14,31 +14,33 @@ use Rattle.task.specs.Decode.{sizes}
 use Rattle.task.specs.Check.{checkOf, accepted}
 use Rattle.task.specs.Answers.{answer, passed}
 use Rattle.task.specs.declared.check.Checked.{Checked}
-use Rattle.task.specs.declared.check.Checked.the-variants.{Accepted, Refused}
-use Rattle.question.specs.Question.{Reply, refused, stateRight, inLevel, leastFrom, askOf, questionOf}
+use Rattle.task.specs.declared.check.Checked.the-variants.{Accepted, Refused as FileRefused}
+use Rattle.question.specs.Question.{stateRight, inLevel, leastFrom, askOf, questionOf}
 use Rattle.question.specs.Levelled.{heldAt}
+use Rattle.question.specs.declared.Answered.{Answered}
+use Rattle.question.specs.declared.Answered.the-variants.{Refused}
 use Rattle.question.proofs.Costs.{least-same, held-in}
 
-module _ (ds state levels bit low high : List ℕ) (b′ count b : ℕ) (b-is : b ≡ b′) (x : Reply) where
+module _ (ds state levels bit low high : List ℕ) (b′ count b : ℕ) (b-is : b ≡ b′) (x : Answered) where
   abbrev Asked : Type 0
   Asked = x ≡ askOf ds b′ state levels bit low high count
 
-  pub ask-11 : levelsShort (length levels) b ≡ true → x ≡ refused 11 0 → Asked
+  pub ask-11 : levelsShort (length levels) b ≡ true → x ≡ Refused 11 0 → Asked
   unfolding askOf
   ask-11 short e = pick-yes _ _ _ _ (rw (← b-is) short) e
 
   module _ (short : levelsShort (length levels) b ≡ false) where
-    pub ask-12 : listsWrong (length bit) (length low) (length high) ≡ true → x ≡ refused 12 0 → Asked
+    pub ask-12 : listsWrong (length bit) (length low) (length high) ≡ true → x ≡ Refused 12 0 → Asked
     unfolding askOf
     ask-12 wrong e = pick-no _ _ _ _ (rw (← b-is) short) (pick-yes _ _ _ _ wrong e)
 
     module _ (wrong : listsWrong (length bit) (length low) (length high) ≡ false) where
-      pub ask-20 : stateRight ds state ≡ false → x ≡ refused 20 0 → Asked
+      pub ask-20 : stateRight ds state ≡ false → x ≡ Refused 20 0 → Asked
       unfolding askOf
       ask-20 right e = pick-no _ _ _ _ (rw (← b-is) short) (pick-no _ _ _ _ wrong (pick-no _ _ _ _ right e))
 
       module _ (right : stateRight ds state ≡ true) (n : ℕ) (n-is : n ≡ bits ds) where
-        pub ask-21 : listed n b levels bit low high count ≡ false → x ≡ refused 21 0 → Asked
+        pub ask-21 : listed n b levels bit low high count ≡ false → x ≡ Refused 21 0 → Asked
         unfolding askOf
         ask-21 passes e =
             pick-no _ _ _ _ (rw (← b-is) short) (pick-no _ _ _ _ wrong (pick-yes _ _ _ _ right (pick-no _ _ _ _ (rw (← b-is, ← n-is) passes) e)))
@@ -54,11 +56,11 @@ module _ (ds state levels bit low high : List ℕ) (b′ count b : ℕ) (b-is : 
 pub file-accepted : (f : List ℕ) (r : Checked) → r ≡ Accepted → (answer r ≡ checkOf f) × (passed r ≡ accepted f) → accepted f ≡ true
 file-accepted f r e check = sym (check .1) ∙ ap passed e
 
-pub file-refused : (f state levels bit low high : List ℕ) (count : ℕ) (r : Checked) (number place : ℕ) → r ≡ Refused number place → (answer r ≡ checkOf f) × (passed r ≡ accepted f) → refused number place ≡ questionOf f state levels bit low high count
+pub file-refused : (f state levels bit low high : List ℕ) (count : ℕ) (r : Checked) (number place : ℕ) → r ≡ FileRefused number place → (answer r ≡ checkOf f) × (passed r ≡ accepted f) → Refused number place ≡ questionOf f state levels bit low high count
 unfolding questionOf
 file-refused f state levels bit low high count r number place e check =
-    pick-no _ _ _ _ (sym (check .1) ∙ ap passed e) (ap (λ (x : ℕ × ℕ). refused (x .0) (x .1)) (sym (ap answer e) ∙ check .0))
+    pick-no _ _ _ _ (sym (check .1) ∙ ap passed e) (ap (λ (x : ℕ × ℕ). Refused (x .0) (x .1)) (sym (ap answer e) ∙ check .0))
 
-pub asked-is : (f state levels bit low high : List ℕ) (count : ℕ) (x : Reply) → accepted f ≡ true → x ≡ askOf (sizes f) (bound f) state levels bit low high count → x ≡ questionOf f state levels bit low high count
+pub asked-is : (f state levels bit low high : List ℕ) (count : ℕ) (x : Answered) → accepted f ≡ true → x ≡ askOf (sizes f) (bound f) state levels bit low high count → x ≡ questionOf f state levels bit low high count
 unfolding questionOf
 asked-is f state levels bit low high count x a e = pick-yes _ _ _ _ a e

@@ -10,11 +10,11 @@ use lib.ListN.{getD}
 use Rattle.planning.specs.Connectives.{pick}
 use Rattle.planning.specs.Coding.{word}
 use Rattle.planning.proofs.Scan.{left}
-use Rattle.planning.proofs.Words.{word-bit, bit-eqb}
-use Rattle.diagrams.specs.Tree.{Tree, none, all, node, den, named, bitAt, member}
-use Rattle.diagrams.specs.Walkable.{bitOf}
-use Rattle.question.specs.Question.{least, notReached, inLevel, leastFrom}
+use Rattle.diagrams.specs.Tree.{Tree, named}
+use Rattle.search_theory.proofs.Bits.{member-word}
+use Rattle.question.specs.Question.{inLevel, leastFrom}
 use Rattle.question.specs.Levelled.{heldAt}
+use Rattle.question.specs.declared.Answered.the-variants.{Least, NotReached}
 
 module _ (holds : ℕ → Bool) (n : ℕ) where
   abbrev pub LeftFrom : ℕ → Type 0
@@ -25,13 +25,13 @@ module _ (holds : ℕ → Bool) (n : ℕ) where
 
   pub least-more : (k : ℕ) → k < n → LeftFrom k → holds k ≡ false → LeftFrom (k + 1)
   unfolding leastFrom pick
-  least-more k h inv e = (omega arith, inv .1 ∙ rw (left n k h, add-one) (ap (λ (t : Bool). pick t (least k) (leastFrom holds (n - suc k) (suc k))) e))
+  least-more k h inv e = (omega arith, inv .1 ∙ rw (left n k h, add-one) (ap (λ (t : Bool). pick t (Least k) (leastFrom holds (n - suc k) (suc k))) e))
 
-  pub least-stop : (k : ℕ) → k < n → LeftFrom k → holds k ≡ true → least k ≡ leastFrom holds n 0
+  pub least-stop : (k : ℕ) → k < n → LeftFrom k → holds k ≡ true → Least k ≡ leastFrom holds n 0
   unfolding leastFrom pick
-  least-stop k h inv e = sym (inv .1 ∙ rw (left n k h) (ap (λ (t : Bool). pick t (least k) (leastFrom holds (n - suc k) (suc k))) e))
+  least-stop k h inv e = sym (inv .1 ∙ rw (left n k h) (ap (λ (t : Bool). pick t (Least k) (leastFrom holds (n - suc k) (suc k))) e))
 
-  pub least-done : (k : ℕ) → n ≤ k → LeftFrom k → notReached ≡ leastFrom holds n 0
+  pub least-done : (k : ℕ) → n ≤ k → LeftFrom k → NotReached ≡ leastFrom holds n 0
   unfolding leastFrom
   least-done k h inv = sym (inv .1 ∙ ap (λ (m : ℕ). leastFrom holds m k) (sub-eq-zero-of-le h))
 
@@ -41,17 +41,7 @@ unfolding leastFrom
 least-same p q e zero g = refl
 least-same p q e (suc n) g = rw (e g, least-same p q e n (suc g))
 
--- ---- a state's word has the state's bits
-pub den-same : (t : Tree) (x y : ℕ → Bool) → ((k : ℕ) → x k ≡ y k) → den t x ≡ den t y
-unfolding den
-den-same none x y e = refl
-den-same all x y e = refl
-den-same (node b l h) x y e = rw (e b, den-same l x y e, den-same h x y e)
-
-pub word-member : (t : Tree) (σ : List Bool) → den t (bitOf (word σ)) ≡ member t σ
-unfolding member bitOf bitAt
-word-member t σ = den-same t (bitOf (word σ)) (bitAt σ) (λ k. rw (word-bit σ k) (bit-eqb (getD σ k false)))
-
+-- ---- a state given as a number
 pub held-in : (levels : List ℕ) (entries : List Tree) (σ : List Bool) (g : ℕ) → heldAt levels entries (word σ) g ≡ inLevel levels entries σ g
 unfolding heldAt inLevel
-held-in levels entries σ g = word-member (named entries (getD levels g 0)) σ
+held-in levels entries σ g = member-word (named entries (getD levels g 0)) σ

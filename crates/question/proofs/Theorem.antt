@@ -22,21 +22,23 @@ use Rattle.task.specs.Format.{bound}
 use Rattle.task.specs.Decode.{sizes, taskOf}
 use Rattle.task.specs.Check.{accepted}
 use Rattle.task.proofs.Goodness.{good}
-use Rattle.question.specs.Question.{Reply, refused, least, notReached, stateRight, inLevel, leastFrom, askOf, questionOf}
+use Rattle.question.specs.Question.{stateRight, inLevel, leastFrom, askOf, questionOf}
 use Rattle.question.specs.Meaning.{NamesLevels, Tells}
+use Rattle.question.specs.declared.Answered.{Answered}
+use Rattle.question.specs.declared.Answered.the-variants.{Refused, Least, NotReached}
 use Rattle.question.proofs.States.{state-valid}
 
--- what a scan of the n costs from i finds
-pub data Finds (holds : ℕ → Bool) (n i : ℕ) : Reply → Type 0 where
-  first : (g : ℕ) → g < i + n → holds g ≡ true → Finds holds n i (least g)
-  nowhere : ((g : ℕ) → i ≤ g → g < i + n → holds g ≡ false) → Finds holds n i notReached
+-- what a scan of the n costs from i finds: one whose set holds the state, or none
+data HeldCost (holds : ℕ → Bool) (n i : ℕ) : Answered → Type 0 where
+  first : (g : ℕ) → g < i + n → holds g ≡ true → HeldCost holds n i (Least g)
+  nowhere : ((g : ℕ) → i ≤ g → g < i + n → holds g ≡ false) → HeldCost holds n i NotReached
 
-finds : (holds : ℕ → Bool) (n i : ℕ) → Finds holds n i (leastFrom holds n i)
+held-cost : (holds : ℕ → Bool) (n i : ℕ) → HeldCost holds n i (leastFrom holds n i)
 unfolding leastFrom pick
-finds holds zero i = nowhere (λ g from to. absurd (omega arith))
-finds holds (suc n) i = by (holds i) refl (finds holds n (suc i))
+held-cost holds zero i = nowhere (λ g from to. absurd (omega arith))
+held-cost holds (suc n) i = by (holds i) refl (held-cost holds n (suc i))
   where
-    later : (r : Reply) → holds i ≡ false → Finds holds n (suc i) r → Finds holds (suc n) i r
+    later : (r : Answered) → holds i ≡ false → HeldCost holds n (suc i) r → HeldCost holds (suc n) i r
     later r e (first g below h) = first g (omega arith) h
     later r e (nowhere out) = nowhere (λ g from to. at g from to (decLt i g))
       where
@@ -44,7 +46,7 @@ finds holds (suc n) i = by (holds i) refl (finds holds n (suc i))
         at g from to (yes lt) = out g lt (omega arith)
         at g from to (no ge) = let same : i ≡ g = omega arith in rw (← same) e
 
-    by : (b : Bool) → holds i ≡ b → Finds holds n (suc i) (leastFrom holds n (suc i)) → Finds holds (suc n) i (pick b (least i) (leastFrom holds n (suc i)))
+    by : (b : Bool) → holds i ≡ b → HeldCost holds n (suc i) (leastFrom holds n (suc i)) → HeldCost holds (suc n) i (pick b (Least i) (leastFrom holds n (suc i)))
     by true e rest = first i (omega arith) e
     by false e rest = later (leastFrom holds n (suc i)) e rest
 
@@ -62,7 +64,7 @@ module _ (t : Task) (𝓖 : Good t) (levels bit low high : List ℕ) (count : �
   held-cheapest : (g : ℕ) → g ≤ t .bound → Cheapest t s g → held g ≡ true
   held-cheapest g le c = held-is g le ∙ T-true _ .0 (demand-2 t 𝓖 g s (state-valid (t .sizes) s right) .1 c)
 
-  tells : (r : Reply) → Finds held (t .bound + 1) 0 r → Tells t s r
+  tells : (r : Answered) → HeldCost held (t .bound + 1) 0 r → Tells t s r
   tells r (first g below h) = (cheapest g (omega arith) h, omega arith)
   tells r (nowhere out) = λ g c. above g c (decLt (t .bound) g)
     where
@@ -75,7 +77,7 @@ module _ (t : Task) (𝓖 : Good t) (levels bit low high : List ℕ) (count : �
   asked = pick-no _ _ _ _ (names .long) (pick-no _ _ _ _ (names .right) (pick-yes _ _ _ _ right (pick-yes _ _ _ _ (names .passes) refl)))
 
   pub ask-tells : Tells t s (askOf (t .sizes) (t .bound) s levels bit low high count)
-  ask-tells = rw (← asked) (tells (leastFrom held (t .bound + 1) 0) (finds held (t .bound + 1) 0))
+  ask-tells = rw (← asked) (tells (leastFrom held (t .bound + 1) 0) (held-cost held (t .bound + 1) 0))
 
 -- the question's answer on an accepted file, of a state of its task
 module _ (f : List ℕ) (a : accepted f ≡ true) (levels bit low high : List ℕ) (count : ℕ) (names : NamesLevels (taskOf f) levels bit low high count) (s : List ℕ) (right : stateRight (sizes f) s ≡ true) where
@@ -86,21 +88,21 @@ module _ (f : List ℕ) (a : accepted f ≡ true) (levels bit low high : List �
       rw (← e) (ask-tells (taskOf f) (good f a) levels bit low high count names s right)
 
   -- so the cost of the cheapest sequence, within the bound, is the answer
-  pub question-least : (g : ℕ) → Cheapest (taskOf f) s g → g ≤ bound f → questionOf f s levels bit low high count ≡ least g
+  pub question-least : (g : ℕ) → Cheapest (taskOf f) s g → g ≤ bound f → questionOf f s levels bit low high count ≡ Least g
   unfolding taskOf
   question-least g c le = by (questionOf f s levels bit low high count) question-tells
     where
-      by : (r : Reply) → Tells (taskOf f) s r → r ≡ least g
-      by (refused number value) h = absurd h
-      by (least h) q = ap least (cheapest-unique (taskOf f) s h g (q .0) c)
-      by notReached above = absurd (omega (arith, above g c))
+      by : (r : Answered) → Tells (taskOf f) s r → r ≡ Least g
+      by (Refused number place) h = absurd h
+      by (Least h) q = ap Least (cheapest-unique (taskOf f) s h g (q .0) c)
+      by NotReached above = absurd (omega (arith, above g c))
 
   -- and without one the state is not reached
-  pub question-not-reached : ((g : ℕ) → Cheapest (taskOf f) s g → bound f < g) → questionOf f s levels bit low high count ≡ notReached
+  pub question-not-reached : ((g : ℕ) → Cheapest (taskOf f) s g → bound f < g) → questionOf f s levels bit low high count ≡ NotReached
   unfolding taskOf
   question-not-reached above = by (questionOf f s levels bit low high count) question-tells
     where
-      by : (r : Reply) → Tells (taskOf f) s r → r ≡ notReached
-      by (refused number value) h = absurd h
-      by (least g) q = absurd (omega (arith, above g (q .0), q .1))
-      by notReached h = refl
+      by : (r : Answered) → Tells (taskOf f) s r → r ≡ NotReached
+      by (Refused number place) h = absurd h
+      by (Least g) q = absurd (omega (arith, above g (q .0), q .1))
+      by NotReached h = refl

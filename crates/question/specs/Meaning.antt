@@ -11,7 +11,8 @@ use Rattle.lent_lists.specs.Lists.{levelsShort, listsWrong, listed}
 use Rattle.diagrams.specs.Tree.{named, trees}
 use Rattle.search_theory.specs.Bits.{bitTask}
 use Rattle.search_theory.specs.Levels.{level}
-use Rattle.question.specs.Question.{Reply, refused, least, notReached}
+use Rattle.question.specs.declared.Answered.{Answered}
+use Rattle.question.specs.declared.Answered.the-variants.{Refused, Least, NotReached}
 
 -- the lists pass 11, 12 and 21, and name the levels of the task: so a successful search leaves them
 pub record NamesLevels (t : Task) (levels bit low high : List ℕ) (count : ℕ) : Type 0 where
@@ -21,7 +22,7 @@ pub record NamesLevels (t : Task) (levels bit low high : List ℕ) (count : ℕ)
   pub names : (g : ℕ) → g ≤ t .bound → named (trees bit low high count) (getD levels g 0) ≡ level (bitTask t) g
 
 -- the answer is the cost of the cheapest applicable sequence to the state s if that is at most the bound, else "not reached"
-abbrev pub Tells : Task → List ℕ → Reply → Type 0
-Tells t s (refused number value) = ⊥
-Tells t s (least g) = Cheapest t s g × (g ≤ t .bound)
-Tells t s notReached = (g : ℕ) → Cheapest t s g → t .bound < g
+abbrev pub Tells : Task → List ℕ → Answered → Type 0
+Tells t s (Refused number place) = ⊥
+Tells t s (Least g) = Cheapest t s g × (g ≤ t .bound)
+Tells t s NotReached = (g : ℕ) → Cheapest t s g → t .bound < g

@@ -12,12 +12,8 @@ use Rattle.diagrams.specs.Tree.{Tree, named, trees, member}
 use Rattle.task.specs.Format.{bound}
 use Rattle.task.specs.Decode.{sizes}
 use Rattle.task.specs.Check.{checkOf, accepted}
-
--- refused, with a number and a value; the least cost whose set holds the state; or not reached
-pub data Reply : Type 0 where
-  refused : ℕ → ℕ → Reply
-  least : ℕ → Reply
-  notReached : Reply
+use Rattle.question.specs.declared.Answered.{Answered}
+use Rattle.question.specs.declared.Answered.the-variants.{Refused, Least, NotReached}
 
 -- ---- 20, of a state of a task whose variables have these numbers of values
 -- the value of variable v is in its range
@@ -34,22 +30,22 @@ unfoldable pub inLevel : List ℕ → List Tree → List Bool → ℕ → Bool
 inLevel levels entries σ g = member (named entries (getD levels g 0)) σ
 
 -- the least of the n costs from g whose set holds the state
-unfoldable pub leastFrom : (ℕ → Bool) → ℕ → ℕ → Reply
-leastFrom holds zero g = notReached
-leastFrom holds (suc n) g = pick (holds g) (least g) (leastFrom holds n (suc g))
+unfoldable pub leastFrom : (ℕ → Bool) → ℕ → ℕ → Answered
+leastFrom holds zero g = NotReached
+leastFrom holds (suc n) g = pick (holds g) (Least g) (leastFrom holds n (suc g))
 
 -- 11, 12, 20, 21 and the answer, for a task whose variables have these numbers of values, with the bound b
-unfoldable pub askOf : List ℕ → ℕ → List ℕ → List ℕ → List ℕ → List ℕ → List ℕ → ℕ → Reply
+unfoldable pub askOf : List ℕ → ℕ → List ℕ → List ℕ → List ℕ → List ℕ → List ℕ → ℕ → Answered
 askOf ds b state levels bit low high count =
-    pick (levelsShort (length levels) b) (refused 11 0)
-    (pick (listsWrong (length bit) (length low) (length high)) (refused 12 0)
+    pick (levelsShort (length levels) b) (Refused 11 0)
+    (pick (listsWrong (length bit) (length low) (length high)) (Refused 12 0)
     (pick (stateRight ds state)
     (pick (listed (bits ds) b levels bit low high count)
     (leastFrom (inLevel levels (trees bit low high count) (code ds state)) (b + 1) 0)
-    (refused 21 0))
-    (refused 20 0)))
+    (Refused 21 0))
+    (Refused 20 0)))
 
 -- the file check first
-unfoldable pub questionOf : List ℕ → List ℕ → List ℕ → List ℕ → List ℕ → List ℕ → ℕ → Reply
+unfoldable pub questionOf : List ℕ → List ℕ → List ℕ → List ℕ → List ℕ → List ℕ → ℕ → Answered
 questionOf file state levels bit low high count =
-    pick (accepted file) (askOf (sizes file) (bound file) state levels bit low high count) (refused (checkOf file .0) (checkOf file .1))
+    pick (accepted file) (askOf (sizes file) (bound file) state levels bit low high count) (Refused (checkOf file .0) (checkOf file .1))

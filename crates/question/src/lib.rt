@@ -18,11 +18,10 @@ ghost use Rattle.diagrams.specs.Tree.{trees};
 ghost use Rattle.task.specs.Format.{variables, bound};
 ghost use Rattle.task.specs.Check.{accepted};
 ghost use Rattle.task.specs.Decode.{sizes};
-ghost use Rattle.question.specs.Question.{valueRight, stateRight, leastFrom, askOf, questionOf, refused};
-ghost use Rattle.question.specs.Answers.{answer};
+ghost use Rattle.question.specs.Question.{valueRight, stateRight, leastFrom, askOf, questionOf};
 ghost use Rattle.question.specs.Levelled.{Levelled, heldAt};
 
-// What the question answers (specs/Answers.antt has document 01's number and value for each case).
+// What the question answers (specs/Answers.antt has document 01's number and values for each case).
 pub enum Answered {
     // The refusal's number, and the record that it is about, or 0.
     Refused { number: u8, place: u16 },
@@ -68,7 +67,9 @@ fn least(
     state: u64,
 ) -> Answered
     requires { ⌜ Levelled (now levels) (now bit) (now low) (now high) count n ⌝ }
-    ensures { λ r. ⌜ answer r ≡ leastFrom (heldAt (now (levels .entry)) (trees (now (bit .entry)) (now (low .entry)) (now (high .entry)) count) state) n 0 ⌝ }
+    ensures { λ r.
+        let entries = trees (now (bit .entry)) (now (low .entry)) (now (high .entry)) count in
+        ⌜ r ≡ leastFrom (heldAt (now (levels .entry)) entries state) n 0 ⌝ }
 {
     let mut g = 0;
     while g < n {
@@ -82,7 +83,7 @@ fn least(
 
 // A refusal that is about no record.
 fn refusal(number: u8) -> Answered
-    ensures { λ r. ⌜ answer r ≡ refused number 0 ⌝ }
+    ensures { λ r. ⌜ r ≡ Answered.Refused number 0 ⌝ }
 {
     Answered::Refused { number, place: 0 }
 }
@@ -98,7 +99,9 @@ fn ask(
     count: usize,
 ) -> Answered
     requires { ⌜ accepted (now file) ≡ true ⌝ }
-    ensures { λ r. ⌜ answer r ≡ askOf (sizes (now (file .entry))) (bound (now (file .entry))) (now (state .entry)) (now (levels .entry)) (now (bit .entry)) (now (low .entry)) (now (high .entry)) count ⌝ }
+    ensures { λ r.
+        let f = now (file .entry) in
+        ⌜ r ≡ askOf (sizes f) (bound f) (now (state .entry)) (now (levels .entry)) (now (bit .entry)) (now (low .entry)) (now (high .entry)) count ⌝ }
 {
     let b = bound(file) as u16;
     if levels_short(levels.len(), b) {
@@ -128,7 +131,7 @@ pub fn question(
     high: &[u32],
     count: usize,
 ) -> Answered
-    ensures { λ r. ⌜ answer r ≡ questionOf (now (file .entry)) (now (state .entry)) (now (levels .entry)) (now (bit .entry)) (now (low .entry)) (now (high .entry)) count ⌝ }
+    ensures { λ r. ⌜ r ≡ questionOf (now (file .entry)) (now (state .entry)) (now (levels .entry)) (now (bit .entry)) (now (low .entry)) (now (high .entry)) count ⌝ }
 {
     if let Checked::Refused { number, place } = check(file) {
         return Answered::Refused { number, place };

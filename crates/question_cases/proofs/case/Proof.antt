@@ -74,7 +74,7 @@ numbers-requires-4 : tie.Need-numbers-requires-4
 numbers-requires-4 c κs = search needs
 
 slice-aggregate-write-all : tie.Need-slice-aggregate-write-all
-slice-aggregate-write-all c = part-long (c .before .before .before .before .before .before .before .before .before .before .before .before .colon .result) (c .before .before .before .before .before .before .before .before .before .before .before .before .before .before .before .args .line .now) (c .before .before .before .before .before .before .before .before .before .before .before .before .colon .ensures)
+slice-aggregate-write-all c = part-long _ _ (c .before .before .before .before .before .before .before .before .before .before .before .before .colon .ensures)
 
 write-all-requires : tie.Need-write-all-requires
 write-all-requires c κs = search needs
@@ -83,31 +83,31 @@ array-share-prefix-state : tie.Need-array-share-prefix-state
 array-share-prefix-state c = search needs
 
 slice-aggregate-question : tie.Need-slice-aggregate-question
-slice-aggregate-question c = row-long (c .before .before .before .before .before .before .before .before .before .before .before .before .before .digits .result) (c .before .before .before .before .before .before .before .values .result) (c .before .before .before .before .before .before .before .before .before .before .before .before .before .digits .ensures) (c .before .before .before .before .before .before .before .values .ensures)
+slice-aggregate-question c = row-long _ _ (c .before .before .before .before .before .before .before .before .before .before .before .before .before .digits .ensures) (c .before .before .before .before .before .before .before .values .ensures)
 
 array-share-prefix-levels : tie.Need-array-share-prefix-levels
 array-share-prefix-levels c = search needs
 
 slice-aggregate-question-2 : tie.Need-slice-aggregate-question-2
-slice-aggregate-question-2 c = row-long (c .before .before .before .before .before .before .before .before .before .before .before .before .before .digits2 .result) (c .before .before .before .before .before .before .before .numbers .result) (c .before .before .before .before .before .before .before .before .before .before .before .before .before .digits2 .ensures) (c .before .before .before .before .before .before .before .numbers .ensures)
+slice-aggregate-question-2 c = row-long _ _ (c .before .before .before .before .before .before .before .before .before .before .before .before .before .digits2 .ensures) (c .before .before .before .before .before .before .before .numbers .ensures)
 
 array-share-prefix-bit : tie.Need-array-share-prefix-bit
 array-share-prefix-bit c = search needs
 
 slice-aggregate-question-3 : tie.Need-slice-aggregate-question-3
-slice-aggregate-question-3 c = row-long (c .before .before .before .before .before .before .before .before .before .before .before .before .before .digits3 .result) (c .before .before .before .before .before .before .before .numbers2 .result) (c .before .before .before .before .before .before .before .before .before .before .before .before .before .digits3 .ensures) (c .before .before .before .before .before .before .before .numbers2 .ensures)
+slice-aggregate-question-3 c = row-long _ _ (c .before .before .before .before .before .before .before .before .before .before .before .before .before .digits3 .ensures) (c .before .before .before .before .before .before .before .numbers2 .ensures)
 
 array-share-prefix-low : tie.Need-array-share-prefix-low
 array-share-prefix-low c = search needs
 
 slice-aggregate-question-4 : tie.Need-slice-aggregate-question-4
-slice-aggregate-question-4 c = row-long (c .before .before .before .before .before .before .before .before .before .before .before .before .before .digits4 .result) (c .before .before .before .before .before .before .before .numbers3 .result) (c .before .before .before .before .before .before .before .before .before .before .before .before .before .digits4 .ensures) (c .before .before .before .before .before .before .before .numbers3 .ensures)
+slice-aggregate-question-4 c = row-long _ _ (c .before .before .before .before .before .before .before .before .before .before .before .before .before .digits4 .ensures) (c .before .before .before .before .before .before .before .numbers3 .ensures)
 
 array-share-prefix-high : tie.Need-array-share-prefix-high
 array-share-prefix-high c = search needs
 
 slice-aggregate-question-5 : tie.Need-slice-aggregate-question-5
-slice-aggregate-question-5 c = row-long (c .before .before .before .before .before .before .before .before .before .before .before .before .before .digits5 .result) (c .before .before .before .before .before .before .before .numbers4 .result) (c .before .before .before .before .before .before .before .before .before .before .before .before .before .digits5 .ensures) (c .before .before .before .before .before .before .before .numbers4 .ensures)
+slice-aggregate-question-5 c = row-long _ _ (c .before .before .before .before .before .before .before .before .before .before .before .before .before .digits5 .ensures) (c .before .before .before .before .before .before .before .numbers4 .ensures)
 
 question-requires : tie.Need-question-requires
 question-requires c κs = search needs
