@@ -31,7 +31,7 @@ equal-lengths l m n h =
 
 -- ---- a child
 -- a child of the entry k is 0, 1 or an earlier entry
-pub child-earlier : (bit : List ℕ) (k c : ℕ) → childRight bit k c ≡ true → c < k + 2
+child-earlier : (bit : List ℕ) (k c : ℕ) → childRight bit k c ≡ true → c < k + 2
 unfolding childRight
 child-earlier bit k c h =
     ⊎-elim
@@ -40,7 +40,7 @@ child-earlier bit k c h =
     (or-either _ _ h)
 
 -- a child entry has a higher bit number
-pub child-rises : (bit : List ℕ) (k c : ℕ) → childRight bit k c ≡ true → 2 ≤ c → getD bit k 0 < getD bit (c - 2) 0
+child-rises : (bit : List ℕ) (k c : ℕ) → childRight bit k c ≡ true → 2 ≤ c → getD bit k 0 < getD bit (c - 2) 0
 unfolding childRight
 child-rises bit k c h two =
     ⊎-elim
@@ -48,7 +48,7 @@ child-rises bit k c h two =
     (λ (e : (ltb (c - 2) k and ltb (getD bit k 0) (getD bit (c - 2) 0)) ≡ true). ltb-true _ _ (and-both _ _ e .1))
     (or-either _ _ h)
 
-pub child-right : (bit : List ℕ) (k c : ℕ) → c < k + 2 → (2 ≤ c → getD bit k 0 < getD bit (c - 2) 0) → childRight bit k c ≡ true
+child-right : (bit : List ℕ) (k c : ℕ) → c < k + 2 → (2 ≤ c → getD bit k 0 < getD bit (c - 2) 0) → childRight bit k c ≡ true
 unfolding childRight
 child-right bit k c earlier rises = by (decLt c 2)
   where
@@ -57,7 +57,7 @@ child-right bit k c earlier rises = by (decLt c 2)
     by (no h) = sym (or-go _ _ _ (le-ltb c 2 (omega arith)) (and-go _ _ _ (lt-ltb (c - 2) k (omega arith)) (sym (lt-ltb _ _ (rises (omega arith))))))
 
 -- ---- a name
-pub name-below : (k c : ℕ) → nameRight k c ≡ true → c < k + 2
+name-below : (k c : ℕ) → nameRight k c ≡ true → c < k + 2
 unfolding nameRight
 name-below k c h =
     ⊎-elim
@@ -65,7 +65,7 @@ name-below k c h =
     (λ (e : ltb (c - 2) k ≡ true). omega (arith, ltb-true (c - 2) k e))
     (or-either _ _ h)
 
-pub name-right : (k c : ℕ) → c < k + 2 → nameRight k c ≡ true
+name-right : (k c : ℕ) → c < k + 2 → nameRight k c ≡ true
 unfolding nameRight
 name-right k c h = by (decLt c 2)
   where

@@ -2,7 +2,7 @@
 // answer on any lists. Each goes once through what it reads.
 ghost use mathlib.Core.Path.{_≡_};
 ghost use Prim.Native.Nat.{_<_};
-ghost use lib.ListN.{length, getD};
+ghost use lib.ListN.{getD};
 ghost use Rattle.lent_lists.specs.Lists.{levelsShort, listsWrong, nameRight, childRight, entryRight, entriesRight, levelRight, namesRight, listed};
 
 // The most entries that node lists, and utility lists, may have.

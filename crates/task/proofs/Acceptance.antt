@@ -10,15 +10,16 @@ use lib.ListN.{length, take, drop, length-drop}
 use lib.Seq.{length-take-le}
 use lib.Dec.{leb, ltb, eqb}
 use borrow.Author.Tests.{ltb-true, leb-true, eqb-true, eqb-false, lt-ltb, le-leb, ne-eqb}
-use Rattle.planning.specs.Connectives.{_and_, _or_, pick}
+use Rattle.planning.specs.Connectives.{_or_, pick}
 use Rattle.planning.specs.Coding.{bits}
 use Rattle.task.specs.Bytes.{part}
-use Rattle.planning.specs.Scan.{firstBad, every}
-use Rattle.task.specs.Format.{variables, operators, terms, bound, operatorsAt, operatorRecord, termRecord, size, startValue, factVariable, factValue, cost, preconditionCount, preconditions, effectCount, effects, termCount, termZero, termFacts}
+use Rattle.planning.specs.Scan.{firstBad}
+use Rattle.task.specs.Format.{variables, operators, terms, operatorsAt, operatorRecord, termRecord, factVariable, preconditions, effects, termCount, termFacts}
 use Rattle.task.specs.Decode.{sizes}
-use Rattle.task.specs.Check.{lettersRight, lengthRight, countsRight, sectionInside, allInside, allApart, headerFault, namesVariable, hasValue, rises, usedRight, unusedRight, factRight, factsRight, variableRight, costRight, factCountsRight, preconditionsRight, effectsRight, operatorRecordRight, operatorRight, termCountsRight, termFactsRight, termRecordRight, termRight, firstBadVariable, firstBadOperator, firstBadTerm, checkTerms, checkOperators, checkBits, checkVariables, checkOf, accepted, operatorPart}
+use Rattle.task.specs.Check.{countsRight, sectionInside, allInside, headerFault, namesVariable, hasValue, rises, usedRight, unusedRight, factRight, factsRight, variableRight, costRight, factCountsRight, preconditionsRight, effectsRight, operatorRecordRight, operatorRight, termCountsRight, termFactsRight, termRecordRight, termRight, firstBadVariable, firstBadOperator, firstBadTerm, checkTerms, checkOperators, checkBits, checkVariables, checkOf, accepted, operatorPart}
 use Rattle.task.specs.Sound.{RightVariable, RightFact, RightRow, RightOperator, RightTerm, Sound}
-use Rattle.planning.proofs.Guards.{pick-yes}
+use Rattle.planning.proofs.Guards.{pick-yes, and-both}
+use Rattle.planning.proofs.Scan.{every-at}
 
 -- ---- a choice that came out as r, where one of the two cannot be r
 not-yes : {A : Type 0} (b : Bool) (x y r : A) → pick b x y ≡ r → (x ≡ r → ⊥) → (b ≡ false) × (y ≡ r)
@@ -35,11 +36,6 @@ chosen : (b x y : Bool) → pick b x y ≡ true → b ≡ true → x ≡ true
 unfolding pick
 chosen true x y e h = e
 chosen false x y e h = let z : _≡_ {A = ℕ} 0 1 = cc in absurd (omega arith)
-
-and-both : (a b : Bool) → a and b ≡ true → (a ≡ true) × (b ≡ true)
-unfolding _and_
-and-both true b e = (refl, e)
-and-both false b e = let z : _≡_ {A = ℕ} 0 1 = cc in absurd (omega arith)
 
 or-second : (a b : Bool) → a or b ≡ true → a ≡ false → b ≡ true
 unfolding _or_
@@ -116,15 +112,6 @@ all-right ok (suc n) i k e l h = go (ok i) refl (firstBad-least ok n (suc i)) e 
     go true d m q (inr z) rec = rec (omega arith) z (omega arith)
     go false d m q z rec = absurd (omega arith)
 
-every-at : (ok : ℕ → Bool) (n i k : ℕ) → every ok n i ≡ true → i ≤ k → k < i + n → ok k ≡ true
-unfolding every
-every-at ok zero i k e l h = absurd (omega arith)
-every-at ok (suc n) i k e l h = go (eq-or-lt-of-le l) (and-both _ _ e) (every-at ok n (suc i) k)
-  where
-    go : (i ≡ k) ⊎ (i < k) → (ok i ≡ true) × (every ok n (suc i) ≡ true) → (every ok n (suc i) ≡ true → suc i ≤ k → k < suc i + n → ok k ≡ true) → ok k ≡ true
-    go (inl z) p rec = ap ok (sym z) ∙ p .0
-    go (inr z) p rec = rec (p .1) z (omega arith)
-
 from-first : (ok : ℕ → Bool) (n k : ℕ) → firstBad ok n 0 ≡ n → k < n → ok k ≡ true
 from-first ok n k e h = all-right ok n 0 k (e ∙ sym (zero-add n)) zero-le (omega arith)
 
@@ -133,7 +120,7 @@ module _ (f fs : List ℕ) (used places : ℕ) (right : factsRight f fs used pla
   used-right : (k : ℕ) → k < used → usedRight f fs k ≡ true
   unfolding factsRight factRight
   used-right k l =
-      let at : factRight f fs used k ≡ true = every-at (factRight f fs used) places 0 k right zero-le (omega arith) in
+      let at : factRight f fs used k ≡ true = every-at (factRight f fs used) places 0 right k zero-le (omega arith) in
       chosen (ltb k used) _ (unusedRight fs k) at (lt-ltb k used l)
 
   fact-is : (k : ℕ) → k < used → RightFact f fs k

@@ -1,30 +1,30 @@
 -- The task of an accepted file is a good one.
 use Prim.Native.Nat.{ℕ, zero, suc, _+_, _≤_, _<_}
-use mathlib.Core.Path.{_≡_, refl, sym, ap, _∙_}
+use mathlib.Core.Path.{_≡_, ap, _∙_}
 use mathlib.Core.Bool.{true}
-use mathlib.Core.List.{List, [], _∷_}
+use mathlib.Core.List.{List}
 use native.Mathlib.Omega.{arith}
 use native.Mathlib.Nat.{zero-add, add-zero, not-suc-le-zero, le-of-suc-le-suc}
 use lib.ListN.{length, getD}
-use Rattle.planning.specs.Model.{Fact, Operator, Term, operatorAt}
+use Rattle.planning.specs.Model.{Operator, Term, operatorAt}
 use Rattle.planning.specs.Scan.{tab}
 use Rattle.planning.specs.Coding.{Valid, UsedFact, Facts}
 use Rattle.planning.specs.Good.{Terms, Good}
-use Rattle.task.specs.Format.{variables, operators, terms, size, startValue, operatorRecord, termRecord, factVariable, factValue}
+use Rattle.task.specs.Format.{variables, operators, terms, size, startValue, factVariable}
 use Rattle.task.specs.Decode.{factAt, facts, operatorIn, termIn, sizes, taskOf}
 use Rattle.task.specs.Check.{accepted}
-use Rattle.task.specs.Sound.{RightVariable, RightFact, RightRow, RightTerm, Sound}
+use Rattle.task.specs.Sound.{RightRow}
 use Rattle.task.proofs.StateLaws.{length-tab}
 use Rattle.task.proofs.Acceptance.{sound}
 
 -- ---- what stands at a number in a row of values
-pub getD-tab : (g : ℕ → ℕ) (n i k : ℕ) → k < n → getD (tab g n i) k 0 ≡ g (i + k)
+getD-tab : (g : ℕ → ℕ) (n i k : ℕ) → k < n → getD (tab g n i) k 0 ≡ g (i + k)
 unfolding tab
 getD-tab g zero i k h = absurd (not-suc-le-zero h)
 getD-tab g (suc n) i zero h = rw add-zero
 getD-tab g (suc n) i (suc k) h = getD-tab g n (suc i) k (le-of-suc-le-suc h) ∙ ap g (omega arith)
 
-pub operatorAt-tab : (g : ℕ → Operator) (n i o : ℕ) → o < n → operatorAt (tab g n i) o ≡ g (i + o)
+operatorAt-tab : (g : ℕ → Operator) (n i o : ℕ) → o < n → operatorAt (tab g n i) o ≡ g (i + o)
 unfolding operatorAt tab
 operatorAt-tab g zero i o h = absurd (not-suc-le-zero h)
 operatorAt-tab g (suc n) i zero h = rw add-zero

@@ -1,20 +1,17 @@
 -- Laws of the model's definitions on the rows and terms of a file, each in the direction in which a need asks it.
-use Prim.Native.Nat.{ℕ, zero, suc, _+_, _-_, _*_, _≤_, _<_}
+use Prim.Native.Nat.{ℕ, zero, suc, _+_, _-_, _≤_, _<_}
 use mathlib.Core.Path.{_≡_, refl, sym, ap, _∙_}
-use mathlib.Core.Bool.{Bool, true, false}
+use mathlib.Core.Bool.{Bool}
 use mathlib.Core.List.{List, [], _∷_, _++_}
 use native.Mathlib.Omega.{arith}
 use native.Mathlib.Nat.{sub-zero, sub-eq-zero-of-le, zero-add, add-zero, add-suc, suc-add}
 use native.Mathlib.Numerals.{add-one}
-use lib.ListN.{length, getD, set, take, length-set}
+use lib.ListN.{length, set, take}
 use lib.Seq.{take-suc-set, take-all, set-out}
-use lib.Dec.{leb, ltb, eqb}
-use Rattle.planning.specs.Connectives.{_and_, pick}
-use Rattle.planning.specs.Model.{valueOf, holds, apply, stateUtility}
-use Rattle.task.specs.Bytes.{byte}
+use Rattle.planning.specs.Connectives.{_and_}
+use Rattle.planning.specs.Model.{holds, apply, stateUtility}
 use Rattle.planning.specs.Scan.{every, tab}
-use Rattle.task.specs.Format.{terms}
-use Rattle.task.specs.Decode.{factAt, facts, termIn, taskOf}
+use Rattle.task.specs.Decode.{factAt, facts, termIn}
 use Rattle.task.specs.States.{met, gain}
 use Rattle.planning.proofs.Scan.{left}
 
@@ -33,7 +30,7 @@ module _ {A : Type 0} (g : ℕ → A) where
   length-tab zero i = refl
   length-tab (suc n) i = ap suc (length-tab n (suc i))
 
-  pub tab-snoc : (n i : ℕ) → tab g (suc n) i ≡ tab g n i ++ (g (i + n) ∷ [])
+  tab-snoc : (n i : ℕ) → tab g (suc n) i ≡ tab g n i ++ (g (i + n) ∷ [])
   unfolding tab
   tab-snoc zero i = rw add-zero
   tab-snoc (suc n) i = rw (add-suc i n, ← suc-add i n) (ap (λ (l : List A). g i ∷ l) (tab-snoc n (suc i)))

@@ -13,11 +13,11 @@ unfoldable pub facts : List ℕ → ℕ → List Fact
 facts fs n = tab (factAt fs) n 0
 
 -- what the bytes of an operator's record, and of a term's, say
-abbrev pub readOperator : List ℕ → Operator
+abbrev readOperator : List ℕ → Operator
 readOperator r =
     record { cost = cost r; pre = facts (preconditions r) (preconditionCount r); eff = facts (effects r) (effectCount r) }
 
-abbrev pub readTerm : List ℕ → Term
+abbrev readTerm : List ℕ → Term
 readTerm r = record { weight = weight r; facts = facts (termFacts r) (termCount r) }
 
 -- operator o of a file, and term t

@@ -18,7 +18,7 @@ ghost use Rattle.task.specs.Bytes.{Reads};
 ghost use Rattle.task.specs.Format.{variableRecord, operatorRecord, termRecord, size, startValue, cost, preconditionCount, effectCount, preconditions, effects, weight, termCount, termZero, termFacts};
 
 // The record of variable v, of operator o, and of term t.
-pub fn variable_record(file: &[u8], v: usize) -> &[u8]
+fn variable_record(file: &[u8], v: usize) -> &[u8]
     requires { ⌜ v < 65536 ⌝ }
     ensures { λ r. ⌜ now r ≡ variableRecord (now (file .entry)) v ⌝ }
 {

@@ -1,7 +1,6 @@
 use borrow.Author.Needs.{needs}
 use native.Mathlib.Omega.{arith}
-use mathlib.Core.Path.{refl, sym}
-use lib.ListN.{List·getD-eq-default}
+use mathlib.Core.Path.{refl}
 use Rattle.task.specs.Bytes.{byte}
 use Rattle.task.proofs.Laws.{byte-out}
 use Rattle.task.proofs.bytes.byte.Statement.{statement}

@@ -1,9 +1,6 @@
 use borrow.Author.Needs.{needs}
 use native.Mathlib.Omega.{arith}
-use borrow.Author.Tests.{lt-ltb, le-ltb, le-leb, lt-leb, eq-eqb, ne-eqb}
-use native.Mathlib.Nat.{add-sub-cancel-left}
 use Rattle.task.proofs.Laws.{part-in, part-out}
-use Rattle.task.specs.Bytes.{part}
 use Rattle.task.proofs.bytes.part.Statement.{statement}
 use Rattle.task.proofs.bytes.part.Tie as tie
 

@@ -1,6 +1,6 @@
 use borrow.Author.Needs.{needs}
 use mathlib.Core.Path.{sym, ap, _∙_}
-use Rattle.task.specs.Answers.{answer, passed}
+use Rattle.task.specs.Answers.{passed}
 use Rattle.task.proofs.check.accepted.Statement.{statement}
 use Rattle.task.proofs.check.accepted.Tie as tie
 

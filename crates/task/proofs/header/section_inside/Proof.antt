@@ -1,5 +1,4 @@
 use borrow.Author.Needs.{needs}
-use borrow.Author.Tests.{lt-ltb, le-ltb, le-leb, lt-leb, eq-eqb, ne-eqb}
 use Rattle.planning.proofs.Guards.{tests}
 use Rattle.task.specs.Check.{sectionInside}
 use Rattle.task.proofs.header.section_inside.Statement.{statement}

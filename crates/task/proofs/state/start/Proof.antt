@@ -1,6 +1,6 @@
 -- The loop's invariant: the values before v are written, and the length is kept.
 use Prim.Native.Nat.{_-_, _≤_}
-use mathlib.Core.Path.{_≡_, refl, _∙_}
+use mathlib.Core.Path.{_≡_, refl}
 use native.Mathlib.Omega.{arith}
 use lib.ListN.{length, take, length-set}
 use Rattle.task.specs.Format.{startValue}

@@ -1,6 +1,5 @@
 -- The loop's invariant: the sum, with what the terms from t on add, is the utility.
 use Prim.Native.Nat.{_-_, _*_, _≤_}
-use mathlib.Core.Path.{_≡_, refl, _∙_}
 use native.Mathlib.Omega.{arith}
 use borrow.Author.Needs.{needs}
 use Rattle.task.specs.Format.{terms}
