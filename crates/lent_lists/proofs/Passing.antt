@@ -75,7 +75,7 @@ name-right k c h = by (decLt c 2)
 
 -- ---- the whole test
 -- the entries are in the lists and of a task of n bits; a child is earlier, and a child entry of a higher bit; names are below the count
-pub record Listed (n b : ℕ) (levels bit low high : List ℕ) (count : ℕ) : Type 0 where
+pub record RightLists (n b : ℕ) (levels bit low high : List ℕ) (count : ℕ) : Type 0 where
   pub room : count ≤ length bit
   pub bit-below : (k : ℕ) → k < count → getD bit k 0 < n
   pub low-earlier : (k : ℕ) → k < count → getD low k 0 < k + 2
@@ -104,7 +104,7 @@ module _ (n b : ℕ) (levels bit low high : List ℕ) (count : ℕ) where
     unfolding namesRight levelRight
     level-name g le = name-below count (getD levels g 0) (every-at (levelRight levels count) (b + 1) 0 (parts .2) g (omega arith) (omega arith))
 
-    pub listed-is : Listed n b levels bit low high count
+    pub listed-is : RightLists n b levels bit low high count
     listed-is =
         record {
           room = leb-true _ _ (parts .0);
@@ -116,7 +116,7 @@ module _ (n b : ℕ) (levels bit low high : List ℕ) (count : ℕ) where
           name-below = level-name;
         }
 
-  module _ (l : Listed n b levels bit low high count) where
+  module _ (l : RightLists n b levels bit low high count) where
     entry-right : (k : ℕ) → k < count → entryRight n bit low high k ≡ true
     unfolding entryRight
     entry-right k lt =

@@ -64,12 +64,6 @@ le-leb-r r x k e h = rw (← e) (le-leb k r h)
 pub lt-leb-r : (r x k : ℕ) → r ≡ x → r < k → leb k x ≡ false
 lt-leb-r r x k e h = rw (← e) (lt-leb k r h)
 
-pub lt-ltb-r : (r x k : ℕ) → r ≡ x → k < r → ltb k x ≡ true
-lt-ltb-r r x k e h = rw (← e) (lt-ltb k r h)
-
-pub le-ltb-r : (r x k : ℕ) → r ≡ x → r ≤ k → ltb k x ≡ false
-le-ltb-r r x k e h = rw (← e) (le-ltb k r h)
-
 pub eq-eqb-l : (r x k : ℕ) → r ≡ x → r ≡ k → eqb x k ≡ true
 eq-eqb-l r x k e h = rw (← e) (eq-eqb r k h)
 

@@ -1,6 +1,9 @@
+-- Each way out is one of the laws of the record that is handed out.
+use mathlib.Core.Path.{_∙_}
+use native.Mathlib.Omega.{arith}
 use borrow.Author.Needs.{needs}
-use Rattle.task.specs.Check.{operatorPart}
-use Rattle.planning.proofs.Guards.{guards, lt-ltb-r, le-ltb-r}
+use Rattle.planning.proofs.Guards.{wrong, right}
+use Rattle.task.proofs.Laws.{part-refused, part-none, part-record}
 use Rattle.task.proofs.check.operator.Statement.{statement}
 use Rattle.task.proofs.check.operator.Tie as tie
 
@@ -11,8 +14,7 @@ slice-aggregate-result : tie.Need-slice-aggregate-result
 slice-aggregate-result c = search needs
 
 returns : tie.Need-returns
-unfolding operatorPart
-returns c = search guards
+returns c = part-refused _ _ (wrong _ _ (c .before .before .accepted .ensures) (c .before .if1 .taken))
 
 operators-requires : tie.Need-operators-requires
 operators-requires c κs = search needs
@@ -21,15 +23,17 @@ slice-aggregate-result-2 : tie.Need-slice-aggregate-result-2
 slice-aggregate-result-2 c = search needs
 
 returns-2 : tie.Need-returns-2
-unfolding operatorPart
-returns-2 c = search (guards, le-ltb-r)
+returns-2 c =
+    let n = c .before .before in
+    part-none _ _ (right _ _ (n .before .before .accepted .ensures) (n .before .if1 .left)) (omega (arith, n .operators .ensures .is))
 
 operator-record-requires : tie.Need-operator-record-requires
 operator-record-requires c κs = search needs
 
 returns-3 : tie.Need-returns-3
-unfolding operatorPart
-returns-3 c = search (guards, lt-ltb-r)
+returns-3 c =
+    let n = c .before .before in
+    c .operator-record .ensures ∙ part-record _ _ (right _ _ (n .before .before .accepted .ensures) (n .before .if1 .left)) (omega (arith, n .operators .ensures .is))
 
 pub operator-spec : {M : Type 1} → statement M
 operator-spec =
