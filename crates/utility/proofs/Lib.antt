@@ -1,5 +1,6 @@
 -- Laws that belong to no one function.
 pub mod Cases
+pub mod Counted
 pub mod Shapes
 pub mod Adds
 pub mod Withins
