@@ -1,1 +1,2 @@
+-- What lists that pass the tests say.
 pub mod Passing

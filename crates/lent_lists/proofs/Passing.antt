@@ -12,7 +12,7 @@ use borrow.Author.Tests.{lt-ltb, le-ltb, le-leb, ltb-true, ltb-false, leb-true, 
 use Rattle.planning.specs.Connectives.{_and_, _or_}
 use Rattle.planning.proofs.Guards.{and-go, or-go, or-stop, and-both, or-either}
 use Rattle.planning.proofs.Scan.{every-at, every-all}
-use Rattle.lent_lists.specs.Lists.{listsWrong, nameRight, childRight, entryRight, entriesRight, levelRight, namesRight, listed}
+use Rattle.lent_lists.specs.Lists.{mostEntries, listsWrong, nameRight, childRight, entryRight, entriesRight, levelRight, namesRight, listed}
 
 -- ---- the lengths
 -- neither test holds where their disjunction does not
@@ -22,7 +22,7 @@ or-neither true b h = absurd (true≢false h)
 or-neither false b h = (refl, h)
 
 -- three lists that pass 12 are equally long, and not too long
-pub equal-lengths : (l m n : ℕ) → listsWrong l m n ≡ false → (l ≡ m) × (m ≡ n) × (l ≤ 1048576)
+pub equal-lengths : (l m n : ℕ) → listsWrong l m n ≡ false → (l ≡ m) × (m ≡ n) × (l ≤ mostEntries)
 unfolding listsWrong
 equal-lengths l m n h =
     let p = or-neither _ _ h in

@@ -1,1 +1,2 @@
+-- The tests of lent lists.
 pub mod Lists

@@ -8,7 +8,7 @@ use Rattle.planning.specs.Connectives.{_and_, _or_}
 use Rattle.planning.specs.Scan.{every}
 
 -- the most entries that node lists, and utility lists, may have
-abbrev mostEntries : ℕ
+abbrev pub mostEntries : ℕ
 mostEntries = 1048576
 
 -- 11: a level list of n names is shorter than b + 1

@@ -1,3 +1,4 @@
+-- Tasks, plans, the best plan; states as bits; the stand tasks P and Q.
 pub mod Connectives
 pub mod Model
 pub mod Coding

@@ -76,7 +76,7 @@ module _ (t : Task) (𝓖 : Good t) (levels bit low high : List ℕ) (count : �
   unfolding askOf
   asked = pick-no _ _ _ _ (names .long) (pick-no _ _ _ _ (names .right) (pick-yes _ _ _ _ right (pick-yes _ _ _ _ (names .passes) refl)))
 
-  pub ask-tells : Tells t s (askOf (t .sizes) (t .bound) s levels bit low high count)
+  ask-tells : Tells t s (askOf (t .sizes) (t .bound) s levels bit low high count)
   ask-tells = rw (← asked) (tells (leastFrom held (t .bound + 1) 0) (held-cost held (t .bound + 1) 0))
 
 -- the question's answer on an accepted file, of a state of its task

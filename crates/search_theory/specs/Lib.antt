@@ -1,3 +1,4 @@
+-- The sets of document 01: levels, target and wanted sets, all sets made, and the plan that they give.
 pub mod Sets
 pub mod Bits
 pub mod Passes

@@ -12,8 +12,9 @@ use lib.Dec.{leb, ltb, eqb}
 use borrow.Author.Tests.{ltb-true, leb-true, eqb-true, eqb-false, lt-ltb, le-leb, ne-eqb}
 use Rattle.planning.specs.Connectives.{_or_, pick}
 use Rattle.planning.specs.Coding.{bits}
-use Rattle.task.specs.Bytes.{part}
 use Rattle.planning.specs.Scan.{firstBad}
+use Rattle.task.specs.Limits.{operatorBytes, mostVariables, mostOperators, mostTerms, operatorPlaces, termPlaces, mostBits}
+use Rattle.task.specs.Bytes.{part}
 use Rattle.task.specs.Format.{variables, operators, terms, operatorsAt, operatorRecord, termRecord, factVariable, preconditions, effects, termCount, termFacts}
 use Rattle.task.specs.Decode.{sizes}
 use Rattle.task.specs.Check.{countsRight, sectionInside, allInside, headerFault, namesVariable, hasValue, rises, usedRight, unusedRight, factRight, factsRight, variableRight, costRight, factCountsRight, preconditionsRight, effectsRight, operatorRecordRight, operatorRight, termCountsRight, termFactsRight, termRecordRight, termRight, firstBadVariable, firstBadOperator, firstBadTerm, checkTerms, checkOperators, checkBits, checkVariables, checkOf, accepted, operatorPart}
@@ -72,7 +73,7 @@ fault-zero n x false e h = absurd (eqb-false n 0 e h)
 record Passed (f : List ℕ) : Type 0 where
   pub header : RightHeader f
   pub variables-right : firstBadVariable f ≡ variables f
-  pub few-bits : bits (sizes f) ≤ 48
+  pub few-bits : bits (sizes f) ≤ mostBits
   pub operators-right : firstBadOperator f ≡ operators f
   pub terms-right : firstBadTerm f ≡ terms f
 
@@ -149,26 +150,28 @@ module _ (f : List ℕ) (a : accepted f ≡ true) where
       let s = and-both _ _ (r .1) in
       record { least = leb-true _ _ (r .0); most = leb-true _ _ (s .0); start = ltb-true _ _ (s .1) }
 
-  -- the record handed out is whole: 36 bytes, those from its place in the file
-  operators-end : operatorsAt f + 36 * operators f ≤ length f
+  -- the operators' section ends within the file
+  operators-end : operatorsAt f + operatorBytes * operators f ≤ length f
   unfolding allInside sectionInside
   operators-end = leb-true _ _ (and-both _ _ (and-both _ _ (and-both _ _ (passed f a .header .inside) .1) .0) .1)
 
   module _ (o : ℕ) (l : o < operators f) where
-    record-is : operatorRecord f o ≡ take 36 (drop (operatorsAt f + 36 * o) f)
+    -- so an operator's record is whole: its bytes are those from its place in the file
+    record-is : operatorRecord f o ≡ take operatorBytes (drop (operatorsAt f + operatorBytes * o) f)
     unfolding operatorRecord part
     record-is =
         let ends = operators-end in
-        sym (pick-yes _ _ _ _ (le-leb (operatorsAt f + 36 * o + 36) (length f) (omega arith)) refl)
+        sym (pick-yes _ _ _ _ (le-leb (operatorsAt f + operatorBytes * o + operatorBytes) (length f) (omega arith)) refl)
 
-    pub operator-is : operatorPart f o ≡ take 36 (drop (operatorsAt f + 36 * o) f)
+    -- and handed out so
+    pub operator-is : operatorPart f o ≡ take operatorBytes (drop (operatorsAt f + operatorBytes * o) f)
     unfolding operatorPart
     operator-is = sym (pick-yes _ _ _ _ a (pick-yes _ _ _ _ (lt-ltb _ _ l) (sym record-is)))
 
-    record-long : length (operatorRecord f o) ≡ 36
+    record-long : length (operatorRecord f o) ≡ operatorBytes
     record-long =
         let ends = operators-end in
-        rw record-is (length-take-le 36 (drop (operatorsAt f + 36 * o) f) (rw (length-drop (operatorsAt f + 36 * o) f) (omega arith)))
+        rw record-is (length-take-le operatorBytes (drop (operatorsAt f + operatorBytes * o) f) (rw (length-drop (operatorsAt f + operatorBytes * o) f) (omega arith)))
 
     right-operator : operatorRecordRight f (operatorRecord f o) ≡ true
     unfolding operatorRight
@@ -189,8 +192,8 @@ module _ (f : List ℕ) (a : accepted f ≡ true) where
           dearest = leb-true _ _ (c .1);
           few-preconditions = leb-true _ _ (n .0);
           few-effects = leb-true _ _ (n .1);
-          preconditions = row-is f _ _ 8 (g .0) (leb-true _ _ (n .0));
-          effects = row-is f _ _ 8 (g .1) (leb-true _ _ (n .1));
+          preconditions = row-is f _ _ operatorPlaces (g .0) (leb-true _ _ (n .0));
+          effects = row-is f _ _ operatorPlaces (g .1) (leb-true _ _ (n .1));
         }
 
   term-is : (t : ℕ) → t < terms f → RightTerm f (termRecord f t)
@@ -198,18 +201,18 @@ module _ (f : List ℕ) (a : accepted f ≡ true) where
   term-is t l =
       let r = termRecord f t in
       let b = and-both (termCountsRight r) _ (from-first (termRight f) _ t (passed f a .terms-right) l) in
-      let n = and-both (leb (termCount r) 4) _ (b .0) in
-      let few : termCount r ≤ 4 = leb-true _ _ (n .0) in
-      record { few-facts = few; facts = row-is f (termFacts r) (termCount r) 4 (b .1) few }
+      let n = and-both (leb (termCount r) termPlaces) _ (b .0) in
+      let few : termCount r ≤ termPlaces = leb-true _ _ (n .0) in
+      record { few-facts = few; facts = row-is f (termFacts r) (termCount r) termPlaces (b .1) few }
 
   pub sound : Sound f
   unfolding countsRight
   sound =
       let p = passed f a in
       let b = and-both (leb 1 (variables f)) _ (p .header .counts) in
-      let c = and-both (leb (variables f) 32) _ (b .1) in
-      let d = and-both (leb (operators f) 256) _ (c .1) in
-      let e = and-both (leb (terms f) 256) _ (d .1) in
+      let c = and-both (leb (variables f) mostVariables) _ (b .1) in
+      let d = and-both (leb (operators f) mostOperators) _ (c .1) in
+      let e = and-both (leb (terms f) mostTerms) _ (d .1) in
       record {
         some-variable = leb-true _ _ (b .0);
         few-variables = leb-true _ _ (c .0);

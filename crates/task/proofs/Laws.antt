@@ -11,6 +11,7 @@ use lib.Dec.{eqb}
 use borrow.Author.Tests.{lt-ltb, le-ltb, le-leb, lt-leb, eq-eqb, ne-eqb}
 use Rattle.planning.specs.Connectives.{pick}
 use Rattle.planning.proofs.Guards.{pick-yes, pick-no, eq-eqb-l, ne-eqb-l, le-leb-l, lt-leb-l}
+use Rattle.task.specs.Limits.{operatorBytes, effectsAt}
 use Rattle.task.specs.Bytes.{byte, part}
 use Rattle.task.specs.Format.{operators, operatorRecord, effects}
 use Rattle.task.specs.Check.{checkOf, accepted, operatorPart}
@@ -28,14 +29,14 @@ pub part-out : (f : List ℕ) (at n : ℕ) → length f < at + n → [] ≡ part
 unfolding part pick
 part-out f at n h = rw (lt-leb (at + n) (length f) h)
 
-pub effects-in : (r : List ℕ) → length r ≡ 36 → take (length r - 20) (drop 20 r) ≡ effects r
+pub effects-in : (r : List ℕ) → length r ≡ operatorBytes → take (length r - effectsAt) (drop effectsAt r) ≡ effects r
 unfolding effects pick
 effects-in r h =
-    rw (eq-eqb (length r) 36 h) (take-all (length r - 20) (drop 20 r) (rw (length-drop 20 r) (omega arith)))
+    rw (eq-eqb (length r) operatorBytes h) (take-all (length r - effectsAt) (drop effectsAt r) (rw (length-drop effectsAt r) (omega arith)))
 
-pub effects-out : (r : List ℕ) → (length r ≡ 36 → ⊥) → [] ≡ effects r
+pub effects-out : (r : List ℕ) → (length r ≡ operatorBytes → ⊥) → [] ≡ effects r
 unfolding effects pick
-effects-out r h = rw (ne-eqb (length r) 36 h)
+effects-out r h = rw (ne-eqb (length r) operatorBytes h)
 
 -- ---- the check: two numbers that calls gave are compared
 pub same-yes : (r x s y : ℕ) → r ≡ x → s ≡ y → r ≡ s → eqb x y ≡ true

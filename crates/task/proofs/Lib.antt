@@ -1,3 +1,4 @@
+-- Laws that belong to no one function, and what an accepted file is known to be.
 pub mod Laws
 pub mod StateLaws
 pub mod Acceptance

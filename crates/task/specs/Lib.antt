@@ -1,3 +1,4 @@
+-- The task file: its numbers, its form, its check, and the task that it holds.
 pub mod Limits
 pub mod Bytes
 pub mod Format
