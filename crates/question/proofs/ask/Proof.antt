@@ -16,26 +16,26 @@ use borrow.Author.Needs.{needs}
 use Rattle.question.proofs.ask.Statement.{statement}
 use Rattle.question.proofs.ask.Tie as tie
 
--- ---- the places after the tests, and what each test that was passed tells
+-- ---- from a later place to an earlier one, and what each test that was passed tells
 abbrev start : tie.After-bound → tie.Start
 start c = c .before .before .before .before .before .before .before
 
-abbrev bounded : tie.After-lists-wrong → tie.After-bound
-bounded c = c .before .before .before
+abbrev at-bound : tie.After-lists-wrong → tie.After-bound
+at-bound c = c .before .before .before
 
-abbrev checked : tie.After-state-right → tie.After-lists-wrong
-checked c = c .before .before
+abbrev at-lists : tie.After-state-right → tie.After-lists-wrong
+at-lists c = c .before .before
 
-abbrev stated : tie.After-listed → tie.After-state-right
-stated c = c .before .before .before
+abbrev at-state : tie.After-listed → tie.After-state-right
+at-state c = c .before .before .before
 
 long : (c : tie.Else1) → levelsShort (length (now (start (c .before .before) .args .levels))) (c .before .before .bound .result) ≡ false
 long c = sym (c .before .levels-short .ensures) ∙ c .if1 .left
 
-equal : (c : tie.Else2) → let a = start (bounded (c .before)) .args in listsWrong (length (now (a .bit))) (length (now (a .low))) (length (now (a .high))) ≡ false
+equal : (c : tie.Else2) → let a = start (at-bound (c .before)) .args in listsWrong (length (now (a .bit))) (length (now (a .low))) (length (now (a .high))) ≡ false
 equal c = sym (c .before .lists-wrong .ensures) ∙ c .if2 .left
 
-valid : (c : tie.Else3) → let a = start (bounded (checked (c .before))) .args in stateRight (sizes (now (a .file))) (now (a .state)) ≡ true
+valid : (c : tie.Else3) → let a = start (at-bound (at-lists (c .before))) .args in stateRight (sizes (now (a .file))) (now (a .state)) ≡ true
 valid c = right _ _ (c .before .state-right .ensures) (c .if3 .left)
 
 bound-requires : tie.Need-bound-requires
@@ -64,7 +64,7 @@ refusal-requires-2 c κs = search needs
 returns-2 : tie.Need-returns-2
 returns-2 c =
     let l = c .before .before in
-    ask-12 _ _ _ _ _ _ _ _ _ (bounded l .bound .ensures .is) _ (long (l .before)) (sym (l .lists-wrong .ensures) ∙ c .before .if2 .taken) (c .refusal2 .ensures)
+    ask-12 _ _ _ _ _ _ _ _ _ (at-bound l .bound .ensures .is) _ (long (l .before)) (sym (l .lists-wrong .ensures) ∙ c .before .if2 .taken) (c .refusal2 .ensures)
 
 state-right-requires : tie.Need-state-right-requires
 state-right-requires c κs = search needs
@@ -75,8 +75,8 @@ refusal-requires-3 c κs = search needs
 returns-3 : tie.Need-returns-3
 returns-3 c =
     let r = c .before .before in
-    let l = checked r in
-    ask-20 _ _ _ _ _ _ _ _ _ (bounded l .bound .ensures .is) _ (long (l .before)) (equal (r .before)) (wrong _ _ (r .state-right .ensures) (c .before .if3 .taken)) (c .refusal3 .ensures)
+    let l = at-lists r in
+    ask-20 _ _ _ _ _ _ _ _ _ (at-bound l .bound .ensures .is) _ (long (l .before)) (equal (r .before)) (wrong _ _ (r .state-right .ensures) (c .before .if3 .taken)) (c .refusal3 .ensures)
 
 bits-requires : tie.Need-bits-requires
 bits-requires c κs = search needs
@@ -90,14 +90,14 @@ refusal-requires-4 c κs = search needs
 returns-4 : tie.Need-returns-4
 returns-4 c =
     let p = c .before .before in
-    let r = stated p in
-    let l = checked r in
-    ask-21 _ _ _ _ _ _ _ _ _ (bounded l .bound .ensures .is) _ (long (l .before)) (equal (r .before)) (valid (p .before .before)) _ (p .before .bits .ensures .is) (wrong _ _ (p .listed .ensures) (c .before .if4 .taken)) (c .refusal4 .ensures)
+    let r = at-state p in
+    let l = at-lists r in
+    ask-21 _ _ _ _ _ _ _ _ _ (at-bound l .bound .ensures .is) _ (long (l .before)) (equal (r .before)) (valid (p .before .before)) _ (p .before .bits .ensures .is) (wrong _ _ (p .listed .ensures) (c .before .if4 .taken)) (c .refusal4 .ensures)
 
 state-word-requires : tie.Need-state-word-requires
 state-word-requires c κs =
     let p = c .before in
-    (sound _ (start (bounded (checked (stated p))) .pre) .few-bits, state-length _ _ (valid (p .before .before)) ∙ length-sizes _)
+    (sound _ (start (at-bound (at-lists (at-state p))) .pre) .few-bits, state-length _ _ (valid (p .before .before)) ∙ length-sizes _)
 
 cast-least : tie.Need-cast-least
 cast-least c = search needs
@@ -108,15 +108,15 @@ add-least c = search needs
 least-requires : tie.Need-least-requires
 least-requires c κs =
     let p = c .before .before in
-    let r = stated p in
-    levelled _ _ _ _ _ _ _ (long (checked r .before)) (equal (r .before)) (right _ _ (p .listed .ensures) (c .before .if4 .left))
+    let r = at-state p in
+    levelled _ _ _ _ _ _ _ (long (at-lists r .before)) (equal (r .before)) (right _ _ (p .listed .ensures) (c .before .if4 .left))
 
 returns-5 : tie.Need-returns-5
 returns-5 c =
     let p = c .before .before .before in
-    let r = stated p in
-    let l = checked r in
-    ask-least _ _ _ _ _ _ _ _ _ (bounded l .bound .ensures .is) _ (long (l .before)) (equal (r .before)) (valid (p .before .before)) _ (p .before .bits .ensures .is) (right _ _ (p .listed .ensures) (c .before .before .if4 .left)) _ (c .before .state-word .ensures) (c .least .ensures)
+    let r = at-state p in
+    let l = at-lists r in
+    ask-least _ _ _ _ _ _ _ _ _ (at-bound l .bound .ensures .is) _ (long (l .before)) (equal (r .before)) (valid (p .before .before)) _ (p .before .bits .ensures .is) (right _ _ (p .listed .ensures) (c .before .before .if4 .left)) _ (c .before .state-word .ensures) (c .least .ensures)
 
 pub ask-spec : {M : Type 1} → statement M
 ask-spec =
