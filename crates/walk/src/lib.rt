@@ -71,15 +71,15 @@ fn follow(file: &[u8], plan: &[u8], state: &mut [u8]) -> Walked
     let limit = bound(file);
     let mut spent: usize = 0;
     let mut fault = Fault::Operator;
-    let mut step = 0;
-    let failed = 'steps: loop {
-        if n <= step {
+    let mut at = 0;
+    let step = 'steps: loop {
+        if n <= at {
             break 'steps n;
         }
-        let o = le16(plan, 2 * step);
+        let o = le16(plan, 2 * at);
         if count <= o {
             fault = Fault::Operator;
-            break 'steps step;
+            break 'steps at;
         }
         let record = operator_record(file, o);
         let row = preconditions(record);
@@ -88,23 +88,20 @@ fn follow(file: &[u8], plan: &[u8], state: &mut [u8]) -> Walked
         while k < used {
             if !met(state, row, k) {
                 fault = Fault::Precondition;
-                break 'steps step;
+                break 'steps at;
             }
             k += 1;
         }
         spent += cost(record);
         if limit < spent {
             fault = Fault::Bound;
-            break 'steps step;
+            break 'steps at;
         }
         apply(state, effects(record), effect_count(record));
-        step += 1;
+        at += 1;
     };
-    if failed < n {
-        Walked::Stopped(Stop {
-            step: failed,
-            fault,
-        })
+    if step < n {
+        Walked::Stopped(Stop { step, fault })
     } else {
         Walked::Reached {
             cost: spent,

@@ -17,19 +17,19 @@ use Rattle.walk.proofs.follow.Statement.{statement}
 use Rattle.walk.proofs.follow.Tie as tie
 
 abbrev Inv-loop : tie.InvT-loop
-Inv-loop file plan state n count limit spent fault₀ step o «record» row used k₀ fault k = EveryFrom (met state row) used k
+Inv-loop file plan state n count limit spent fault₀ at o «record» row used k₀ fault k = EveryFrom (met state row) used k
 
 abbrev μ-loop : tie.MeasureT-loop
-μ-loop file plan state n count limit spent fault₀ step o «record» row used k₀ fault k = used - k
+μ-loop file plan state n count limit spent fault₀ at o «record» row used k₀ fault k = used - k
 
 abbrev Inv-steps : tie.InvT-steps
-Inv-steps file plan state₀ n count limit spent₀ fault₀ step₀ state spent fault step =
-    WalkAt file plan (walkFrom (taskOf file) 0 state₀ 0 (steps plan)) state spent step
-    × ((step ≤ length plan / 2)
+Inv-steps file plan state₀ n count limit spent₀ fault₀ at₀ state spent fault at =
+    WalkAt file plan (walkFrom (taskOf file) 0 state₀ 0 (steps plan)) state spent at
+    × ((at ≤ length plan / 2)
     × ((spent < 65536) × ((length state ≡ length state₀) × ((count ≡ operators file) × (limit ≡ bound file)))))
 
 abbrev μ-steps : tie.MeasureT-steps
-μ-steps file plan state₀ n count limit spent₀ fault₀ step₀ state spent fault step = length plan / 2 - step
+μ-steps file plan state₀ n count limit spent₀ fault₀ at₀ state spent fault at = length plan / 2 - at
 
 operators-requires : tie.Need-operators-requires Inv-loop μ-loop Inv-steps μ-steps
 operators-requires c κs = search needs
@@ -91,8 +91,8 @@ effect-count-requires c κs = search needs
 apply-requires : tie.Need-apply-requires Inv-loop μ-loop Inv-steps μ-steps
 apply-requires c κs = omega arith
 
-add-step : tie.Need-add-step Inv-loop μ-loop Inv-steps μ-steps
-add-step c = omega arith
+add-at : tie.Need-add-at Inv-loop μ-loop Inv-steps μ-steps
+add-at c = omega arith
 
 steps-less : tie.Need-steps-less Inv-loop μ-loop Inv-steps μ-steps
 steps-less c = omega arith
@@ -191,7 +191,7 @@ follow-spec =
     effects-requires
     effect-count-requires
     apply-requires
-    add-step
+    add-at
     steps-less
     steps-again
     utility-requires
