@@ -4,9 +4,8 @@ use mathlib.Core.Path.{_≡_, refl}
 use mathlib.Core.List.{List, [], _∷_, _++_}
 use Rattle.planning.specs.Connectives.{_and_, _or_, pick}
 use Rattle.planning.specs.Scan.{firstBad, every, tab}
-use Rattle.planning.specs.Model.{Task, valueOf, holds, apply, stateUtility, operatorAt}
+use Rattle.planning.specs.Model.{valueOf, holds, apply, stateUtility, operatorAt}
 use Rattle.planning.specs.Coding.{wide, width, bits}
-use Rattle.planning.specs.Cases.{fact, P, Q}
 use Rattle.task.specs.Bytes.{byte, le16, le32, part}
 use Rattle.task.specs.Format.{variableRecord, operatorRecord, termRecord, effects}
 use Rattle.task.specs.Decode.{facts, sizes, taskOf}
@@ -16,14 +15,6 @@ use Rattle.walk.specs.declared.Walked.{Walked}
 use Rattle.walk.specs.declared.Walked.the-variants.{Odd, Reached}
 use Rattle.walk.specs.Walk.{stopsAt, walkFrom, walkOf}
 use Rattle.walk.specs.Cases.{header, operator, fileP, fileQ, fileOf}
-
--- the files hold the tasks
-pub tasks :
-    _≡_ {A = List Task}
-    (taskOf (fileP 0) ∷ taskOf (fileP 1) ∷ taskOf (fileP 2) ∷ taskOf (fileQ 3) ∷ taskOf (fileQ 4) ∷ taskOf (fileQ 5) ∷ [])
-    (P 0 ∷ P 1 ∷ P 2 ∷ Q 3 ∷ Q 4 ∷ Q 5 ∷ [])
-unfolding pick tab byte le16 le32 part variableRecord operatorRecord termRecord effects facts sizes taskOf fact P Q
-tasks = refl
 
 -- the file check: P and Q; 16 and 17 values; cost 0; 48 and 49 bits; no bytes
 pub checks :
