@@ -1,13 +1,12 @@
 -- The greatest utility of one level, and over the levels one after another. Assumes nothing.
-use Prim.Native.Nat.{ℕ, zero, suc, _+_, _-_, _≤_, _<_}
+use Prim.Native.Nat.{ℕ, suc, _+_, _-_, _≤_, _<_}
 use mathlib.Core.Path.{_≡_, refl, sym, ap, ap₂, _∙_}
 use mathlib.Core.Bool.{true}
 use mathlib.Core.List.{List}
 use mathlib.Core.Option.{Option, none, some}
 use native.Mathlib.Omega.{arith}
 use native.Mathlib.Numerals.{add-one}
-use lib.Dec.{ltb}
-use lib.ListN.{length, getD}
+use lib.ListN.{getD}
 use borrow.Author.Tests.{lt-ltb, le-ltb}
 use Rattle.planning.specs.Connectives.{pick}
 use Rattle.planning.specs.Model.{Task}
@@ -30,7 +29,6 @@ use Rattle.search_theory.proofs.Task.{width-is, bit-sound}
 use Rattle.utility.specs.Within.{mostT, asNumber}
 use Rattle.utility.specs.Stages.{utilityTree}
 use Rattle.utility.proofs.Withins.{most-diagram}
-use Rattle.search_optimum.specs.declared.Optimum.{Optimum}
 use Rattle.search_optimum.specs.FindsOptimum.{Measured, FindsOptimum}
 
 -- the greatest over levels 0 to g, and 1, and where it is first
