@@ -13,11 +13,11 @@ use Rattle.task.proofs.Goodness.{good}
 use Rattle.utility.specs.Reading.{nodes}
 use Rattle.utility_greatest.specs.Greatest.{MostOf}
 use Rattle.search_levels.proofs.Starts.{bound-is}
-use Rattle.search_optimum.proofs.Rising.{Risen, file-few, rises-first, rises-higher, rises-lower, rises-last}
+use Rattle.search_optimum.proofs.Greatest.{HighestTo, file-few, highest-first, highest-new, highest-stays, highest-last}
 
 abbrev Inv-loop : tie.InvT-loop
 Inv-loop file levels bit low high ubit ulow uhigh memo₀ count ucount root b stamp top₀ cost₀ g₀ memo top cost g =
-    Risen (taskOf file) top cost g × (Stamped (nodes bit low high count) memo stamp (MostOf (nodes bit low high count) (nodes ubit ulow uhigh ucount)) × (length memo ≡ length memo₀))
+    HighestTo (taskOf file) top cost g × (Stamped (nodes bit low high count) memo stamp (MostOf (nodes bit low high count) (nodes ubit ulow uhigh ucount)) × (length memo ≡ length memo₀))
 
 abbrev μ-loop : tie.MeasureT-loop
 μ-loop file levels bit low high ubit ulow uhigh memo₀ count ucount root b stamp top₀ cost₀ g₀ memo top cost g = b - g
@@ -55,7 +55,7 @@ loop-holds : tie.Need-loop-holds Inv-loop μ-loop
 loop-holds c =
     let p = entry (c .before .before .before .before .before .before .before .before .before) .pre in
     let r = c .before .before .most .ensures in
-    (rises-first _ (file-few _ (p .0)) _ _ _ _ (good _ (p .0)) _ (p .1) _ (r .value), (r .keeps, refl))
+    (highest-first _ (file-few _ (p .0)) _ _ _ _ (good _ (p .0)) _ (p .1) _ (r .value), (r .keeps, refl))
 
 add-g : tie.Need-add-g Inv-loop μ-loop
 add-g c = omega (arith, c .loop-test .taken, bounded (c .before) .bound .ensures .is, bounded (c .before) .bound .ensures .small)
@@ -87,7 +87,7 @@ loop-again c =
     let e = bounded (t .before) .bound .ensures .is ∙ bound-is (now (entry (bounded (t .before)) .args .file)) in
     let lt = t .loop-test .taken in
     let r = measured (c .before) .most2 in
-    (rises-higher _ (file-few _ (p .0)) _ _ _ _ _ _ _ (i .0) _ (p .1) (omega (arith, lt, e)) _ (r .ensures .value) (c .if1 .taken), (r .ensures .keeps, r .kept .1 .1 .1 .1 .1 .1 .0 ∙ i .1 .1))
+    (highest-new _ (file-few _ (p .0)) _ _ _ _ _ _ _ (i .0) _ (p .1) (omega (arith, lt, e)) _ (r .ensures .value) (c .if1 .taken), (r .ensures .keeps, r .kept .1 .1 .1 .1 .1 .1 .0 ∙ i .1 .1))
 
 loop-less-2 : tie.Need-loop-less-2 Inv-loop μ-loop
 loop-less-2 c = omega (arith, turn (c .before) .loop-test .taken)
@@ -100,7 +100,7 @@ loop-again-2 c =
     let e = bounded (t .before) .bound .ensures .is ∙ bound-is (now (entry (bounded (t .before)) .args .file)) in
     let lt = t .loop-test .taken in
     let r = measured (c .before) .most2 in
-    (rises-lower _ (file-few _ (p .0)) _ _ _ _ _ _ _ (i .0) _ (p .1) (omega (arith, lt, e)) _ (r .ensures .value) (c .if1 .left), (r .ensures .keeps, r .kept .1 .1 .1 .1 .1 .1 .0 ∙ i .1 .1))
+    (highest-stays _ (file-few _ (p .0)) _ _ _ _ _ _ _ (i .0) _ (p .1) (omega (arith, lt, e)) _ (r .ensures .value) (c .if1 .left), (r .ensures .keeps, r .kept .1 .1 .1 .1 .1 .1 .0 ∙ i .1 .1))
 
 sub-t24 : tie.Need-sub-t24 Inv-loop μ-loop
 sub-t24 c = search needs
@@ -111,7 +111,7 @@ returns c =
     let a = entry (bounded (c .before)) .args in
     let i = c .before .loop .inv in
     let e = bounded (c .before) .bound .ensures .is ∙ bound-is (now (a .file)) in
-    rises-last _ (file-few _ (p .0)) _ (nodes (now (a .ubit)) (now (a .ulow)) (now (a .uhigh)) (a .ucount)) (now (a .levels)) (a .root) _ _ _ _ (i .0) (omega (arith, e, c .loop-test .left)) (i .1 .0 .base)
+    highest-last _ (file-few _ (p .0)) _ (nodes (now (a .ubit)) (now (a .ulow)) (now (a .uhigh)) (a .ucount)) (now (a .levels)) (a .root) _ _ _ _ (i .0) (omega (arith, e, c .loop-test .left)) (i .1 .0 .base)
 
 pub highest-spec : {M : Type 1} → statement M
 highest-spec =
