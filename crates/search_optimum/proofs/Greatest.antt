@@ -58,7 +58,7 @@ module _ (t : Task) (few : bits (t .sizes) ≤ 48) where
 
   module _ (s x : Table) (levels : List ℕ) (root : ℕ) where
     module _ (memo : List ℕ) (𝓜 : Measured t s x memo levels root) (g : ℕ) (le : g ≤ t .bound) (m : ℕ) (e : m ≡ mostT (tree s (getD levels g 0)) (tree x root)) where
-      pub measured : m ≡ asNumber (at g)
+      measured : m ≡ asNumber (at g)
       measured = e ∙ ap₂ mostT (𝓜 .names .means g le) (𝓜 .utility) ∙ level-most g
 
     pub highest-first : Good t → (memo : List ℕ) → Measured t s x memo levels root → (m : ℕ) → m ≡ mostT (tree s (getD levels 0 0)) (tree x root) → HighestTo t m 0 0

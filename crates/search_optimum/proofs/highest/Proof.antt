@@ -1,3 +1,4 @@
+-- The loop's invariant: the greatest utility over levels 0 to g, and the least cost at which it occurs.
 use borrow.Author.Needs.{needs}
 use Rattle.search_optimum.proofs.highest.Statement.{statement}
 use Rattle.search_optimum.proofs.highest.Tie as tie
