@@ -1,5 +1,5 @@
 -- Laws that belong to no one function.
-pub mod Holding
+pub mod HeldSets
 pub mod Steps
 pub mod Starts
 pub mod Forwards

@@ -7,13 +7,14 @@ ghost use Rattle.task.specs.Check.{accepted};
 ghost use Rattle.utility.specs.Reading.{nodes};
 ghost use Rattle.search_optimum.specs.FindsOptimum.{Measured, FindsOptimum};
 
+// The greatest utility, and the least cost at which it occurs.
 pub struct Optimum {
     pub utility: u32,
     pub cost: usize,
 }
 
-// The lists name the levels and, by the root, the utility diagram. The counts are those of the entries in use. One stamp serves all levels,
-// since they share nodes.
+// The optimum over the levels. The lists name the levels and, by the root, the utility diagram. The counts are those of
+// the entries in use. One stamp serves all levels, since they share nodes.
 pub fn highest(
     file: &[u8],
     levels: &[u32],

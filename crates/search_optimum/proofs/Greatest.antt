@@ -1,13 +1,12 @@
 -- The greatest utility of one level, and over the levels one after another. Assumes nothing.
-use Prim.Native.Nat.{ℕ, zero, suc, _+_, _-_, _≤_, _<_}
+use Prim.Native.Nat.{ℕ, suc, _+_, _-_, _≤_, _<_}
 use mathlib.Core.Path.{_≡_, refl, sym, ap, ap₂, _∙_}
 use mathlib.Core.Bool.{true}
 use mathlib.Core.List.{List}
 use mathlib.Core.Option.{Option, none, some}
 use native.Mathlib.Omega.{arith}
 use native.Mathlib.Numerals.{add-one}
-use lib.Dec.{ltb}
-use lib.ListN.{length, getD}
+use lib.ListN.{getD}
 use borrow.Author.Tests.{lt-ltb, le-ltb}
 use Rattle.planning.specs.Connectives.{pick}
 use Rattle.planning.specs.Model.{Task}
@@ -30,11 +29,10 @@ use Rattle.search_theory.proofs.Task.{width-is, bit-sound}
 use Rattle.utility.specs.Within.{mostT, asNumber}
 use Rattle.utility.specs.Stages.{utilityTree}
 use Rattle.utility.proofs.Withins.{most-diagram}
-use Rattle.search_optimum.specs.declared.Optimum.{Optimum}
 use Rattle.search_optimum.specs.FindsOptimum.{Measured, FindsOptimum}
 
 -- the greatest over levels 0 to g, and 1, and where it is first
-pub record Risen (t : Task) (top cost g : ℕ) : Type 0 where
+pub record HighestTo (t : Task) (top cost g : ℕ) : Type 0 where
   pub within : g ≤ t .bound
   pub top-is : top ≡ suc (optimumTo (bitTask t) (reward t) g .0)
   pub cost-is : cost ≡ optimumTo (bitTask t) (reward t) g .1
@@ -60,18 +58,18 @@ module _ (t : Task) (few : bits (t .sizes) ≤ 48) where
 
   module _ (s x : Table) (levels : List ℕ) (root : ℕ) where
     module _ (memo : List ℕ) (𝓜 : Measured t s x memo levels root) (g : ℕ) (le : g ≤ t .bound) (m : ℕ) (e : m ≡ mostT (tree s (getD levels g 0)) (tree x root)) where
-      pub measured : m ≡ asNumber (at g)
+      measured : m ≡ asNumber (at g)
       measured = e ∙ ap₂ mostT (𝓜 .names .means g le) (𝓜 .utility) ∙ level-most g
 
-    pub rises-first : Good t → (memo : List ℕ) → Measured t s x memo levels root → (m : ℕ) → m ≡ mostT (tree s (getD levels 0 0)) (tree x root) → Risen t m 0 0
+    pub highest-first : Good t → (memo : List ℕ) → Measured t s x memo levels root → (m : ℕ) → m ≡ mostT (tree s (getD levels 0 0)) (tree x root) → HighestTo t m 0 0
     unfolding optimumTo asNumber
-    rises-first 𝓖 memo 𝓜 m e = record {
+    highest-first 𝓖 memo 𝓜 m e = record {
       within = omega arith;
       top-is = measured memo 𝓜 0 (omega arith) m e ∙ ap asNumber (most-start bt (reward t) (bit-sound t 𝓖));
       cost-is = refl;
     }
 
-    module _ (top cost g : ℕ) (i : Risen t top cost g) (memo : List ℕ) (𝓜 : Measured t s x memo levels root) (lt : g < t .bound) (m : ℕ) (e : m ≡ mostT (tree s (getD levels (g + 1) 0)) (tree x root)) where
+    module _ (top cost g : ℕ) (i : HighestTo t top cost g) (memo : List ℕ) (𝓜 : Measured t s x memo levels root) (lt : g < t .bound) (m : ℕ) (e : m ≡ mostT (tree s (getD levels (g + 1) 0)) (tree x root)) where
       q : m ≡ asNumber (at (suc g))
       q = measured memo 𝓜 (suc g) lt m (rw (add-one g) at e)
 
@@ -85,21 +83,21 @@ module _ (t : Task) (few : bits (t .sizes) ≤ 48) where
       lower none p h k d l = (h, k)
       lower (some v) p h k d l = rw (le-ltb (p .0) v (omega arith)) (h, k)
 
-      pub rises-higher : top < m → Risen t m (g + 1) (g + 1)
+      pub highest-new : top < m → HighestTo t m (g + 1) (g + 1)
       unfolding optimumTo
-      rises-higher l =
+      highest-new l =
           let z = higher (at (suc g)) (optimumTo bt (reward t) g) (i .top-is) q l in
           rw (add-one g) (record { within = omega arith; top-is = z .0; cost-is = z .1 })
 
-      pub rises-lower : m ≤ top → Risen t top cost (g + 1)
+      pub highest-stays : m ≤ top → HighestTo t top cost (g + 1)
       unfolding optimumTo
-      rises-lower l =
+      highest-stays l =
           let z = lower (at (suc g)) (optimumTo bt (reward t) g) (i .top-is) (i .cost-is) q l in
           rw (add-one g) (record { within = omega arith; top-is = z .0; cost-is = z .1 })
 
-    pub rises-last : (memo : List ℕ) (top cost g : ℕ) → Risen t top cost g → t .bound ≤ g → Memo s memo → FindsOptimum t s memo (record { utility = top - 1; cost = cost })
+    pub highest-last : (memo : List ℕ) (top cost g : ℕ) → HighestTo t top cost g → t .bound ≤ g → Memo s memo → FindsOptimum t s memo (record { utility = top - 1; cost = cost })
     unfolding bestUtility bestCost
-    rises-last memo top cost g i ge m =
+    highest-last memo top cost g i ge m =
         let e : g ≡ t .bound = omega (arith, i .within) in
-        let h : Risen t top cost (t .bound) = rw e at i in
+        let h : HighestTo t top cost (t .bound) = rw e at i in
         record { utility = omega (arith, h .top-is); cost = h .cost-is; keeps = m }
