@@ -2,6 +2,6 @@
 pub mod Cases
 pub mod Shapes
 pub mod Adds
-pub mod Withins
+pub mod Within
 pub mod Meaning
 pub mod Pairs

@@ -265,7 +265,7 @@ fn within(
     if top == 0 {
         return;
     }
-    let r = utility_select::having(
+    let r = utility_select::select(
         bit,
         low,
         high,
