@@ -38,7 +38,7 @@ added-grow s s′ st n t d care value w a k r q =
       means = rw (done-tree s s′ st n t d a (q .a-below), done-tree s s′ st n t d r (q .r-below)) (q .means);
     }
 
-pub memo-added : (s s′ : Table) (st : Store s) (n : ℕ) (t : Tree) (d : Done s s′ n t) (stamp care value w : ℕ) (memo : List ℕ) → Stamped s memo stamp (Added s care value w) → Stamped s′ memo stamp (Added s′ care value w)
+memo-added : (s s′ : Table) (st : Store s) (n : ℕ) (t : Tree) (d : Done s s′ n t) (stamp care value w : ℕ) (memo : List ℕ) → Stamped s memo stamp (Added s care value w) → Stamped s′ memo stamp (Added s′ care value w)
 memo-added s s′ st n t d stamp care value w memo m =
     stamped-weaken s s′ memo stamp (Added s care value w) (Added s′ care value w) (added-grow s s′ st n t d care value w) (memo-grow s s′ st n t d memo (m .base)) m
 
