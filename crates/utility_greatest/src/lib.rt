@@ -1,6 +1,6 @@
 // The greatest utility of the states in a set. No node is made.
 ghost use mathlib.Core.Path.{_≡_};
-ghost use Prim.Native.Nat.{_+_, _≤_, _<_, max};
+ghost use Prim.Native.Nat.{_+_, _<_, max};
 ghost use Rattle.diagrams.specs.Store.{Store};
 ghost use Rattle.diagrams.specs.Memo.{Memo, Stamped};
 ghost use Rattle.utility.specs.Reading.{nodes};
