@@ -28,7 +28,7 @@ use Rattle.search_theory.proofs.Optimum.{most-start}
 use Rattle.search_theory.proofs.Task.{width-is, bit-sound}
 use Rattle.utility.specs.Within.{mostT, asNumber}
 use Rattle.utility.specs.Stages.{utilityTree}
-use Rattle.utility.proofs.Withins.{most-diagram}
+use Rattle.utility.proofs.Within.{most-diagram}
 use Rattle.search_optimum.specs.FindsOptimum.{Measured, FindsOptimum}
 
 -- the greatest over levels 0 to g, and 1, and where it is first

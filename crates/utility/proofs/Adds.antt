@@ -1,11 +1,10 @@
 -- Adding a weight at the states of a cube: what the tree becomes, and that it stays ordered and reduced. Assumes nothing.
-use Prim.Native.Nat.{ℕ, zero, suc, _+_, _-_, _/_, _%_, _^_, _≤_, _<_}
+use Prim.Native.Nat.{ℕ, zero, suc, _+_, _/_, _%_, _^_, _≤_, _<_}
 use mathlib.Core.Path.{_≡_, refl, sym, ap, ap₂, _∙_}
 use mathlib.Core.Bool.{Bool, true, false, cond, _&&_}
 use mathlib.Core.Logic.{_⊎_, inl, inr, ⊎-elim}
 use mathlib.Core.List.{List, [], _∷_}
 use native.Mathlib.Omega.{arith}
-use native.Mathlib.Nat.{div-div-eq-div-mul, pow-suc}
 use lib.Dec.{ltb, leb, eqb}
 use borrow.Author.Tests.{lt-ltb, le-ltb, eq-eqb, eqb-true, eqb-false}
 use Rattle.planning.specs.Connectives.{_and_, _or_, pick}
@@ -13,6 +12,7 @@ use Rattle.planning.specs.Coding.{sameBit, fitsWords}
 use Rattle.diagrams.specs.Tree.{Tree, none, all, node, mkT, Canon, lowT, highT, valueEnd, diagram}
 use Rattle.diagrams.proofs.Trees.{test, mkT-same, mkT-node}
 use Rattle.diagrams.proofs.Canonical.{canon-mkT}
+use Rattle.diagrams.proofs.Meets.{half}
 use Rattle.diagrams.proofs.Diagrams.{canon-diagram, canon-valueEnd, diagram-same}
 use Rattle.utility.specs.Adding.{plusT, digit, lowIn, highIn, addT}
 use Rattle.utility.proofs.Shapes.{equal, low-mkT, high-mkT}
@@ -27,7 +27,7 @@ canon-plus w n (node b l h) c =
     (λ (e : ltb b 64 ≡ false). rw e (omega (arith, c .0), λ q. let z : _≡_ {A = ℕ} 0 1 = cc in omega arith, tt, tt))
     (test (ltb b 64))
 
-pub plus-mkT : (w k : ℕ) (l h : Tree) → k < 64 → plusT w (mkT k l h) ≡ mkT k (plusT w l) (plusT w h)
+plus-mkT : (w k : ℕ) (l h : Tree) → k < 64 → plusT w (mkT k l h) ≡ mkT k (plusT w l) (plusT w h)
 unfolding plusT
 plus-mkT w k l h lt =
     ⊎-elim
@@ -36,28 +36,24 @@ plus-mkT w k l h lt =
     (equal l h)
 
 -- w is added to every value
-pub plus-diagram : (w n k : ℕ) (f : List Bool → ℕ) → k + n ≤ 64 → plusT w (diagram valueEnd n k f) ≡ diagram valueEnd n k (λ σ. f σ + w)
+plus-diagram : (w n k : ℕ) (f : List Bool → ℕ) → k + n ≤ 64 → plusT w (diagram valueEnd n k f) ≡ diagram valueEnd n k (λ σ. f σ + w)
 unfolding diagram plusT valueEnd
 plus-diagram w zero k f h = rw (le-ltb (64 + f []) 64 (omega arith)) (ap (λ (b : ℕ). node b none all) (omega arith))
 plus-diagram w (suc n) k f h =
     plus-mkT w k (diagram valueEnd n (suc k) (λ σ. f (false ∷ σ))) (diagram valueEnd n (suc k) (λ σ. f (true ∷ σ))) (omega arith)
     ∙ rw (plus-diagram w n (suc k) (λ σ. f (false ∷ σ)) (omega arith), plus-diagram w n (suc k) (λ σ. f (true ∷ σ)) (omega arith))
 
--- what is left of a number past one more bit
-pub half : (x k : ℕ) → x / 2 ^ suc k ≡ x / 2 ^ k / 2
-half x k = ap (λ (p : ℕ). x / p) (pow-suc 2 k) ∙ sym (div-div-eq-div-mul x (2 ^ k) 2)
-
 -- the bits from bit k on meet the cube
-abbrev pub meets : ℕ → ℕ → ℕ → List Bool → Bool
+abbrev meets : ℕ → ℕ → ℕ → List Bool → Bool
 meets k care value σ = fitsWords (care / 2 ^ k) (value / 2 ^ k) σ
 
 -- where no bit from k on is named
-pub fits-all : (value : ℕ) (σ : List Bool) → fitsWords 0 value σ ≡ true
+fits-all : (value : ℕ) (σ : List Bool) → fitsWords 0 value σ ≡ true
 unfolding fitsWords _or_ _and_
 fits-all value [] = refl
 fits-all value (b ∷ σ) = fits-all (value / 2) σ
 
-pub meets-all : (care value k : ℕ) (σ : List Bool) → care / 2 ^ k ≡ 0 → meets k care value σ ≡ true
+meets-all : (care value k : ℕ) (σ : List Bool) → care / 2 ^ k ≡ 0 → meets k care value σ ≡ true
 meets-all care value k σ e = rw e (fits-all (value / 2 ^ k) σ)
 
 -- a digit is 0 or 1
@@ -83,11 +79,11 @@ high-bit c v f (inr p) (inr q) = rw (p, q)
 -- a bit and those after it meet the cube
 meets-low : (care value k : ℕ) (σ : List Bool) → meets k care value (false ∷ σ) ≡ (lowIn care value k && meets (suc k) care value σ)
 unfolding fitsWords lowIn digit
-meets-low care value k σ = rw (half care k, half value k) (low-bit (care / 2 ^ k % 2) (value / 2 ^ k % 2) (fitsWords (care / 2 ^ k / 2) (value / 2 ^ k / 2) σ) (parity _ (omega arith)) (parity _ (omega arith)))
+meets-low care value k σ = rw (← half care k, ← half value k) (low-bit (care / 2 ^ k % 2) (value / 2 ^ k % 2) (fitsWords (care / 2 ^ k / 2) (value / 2 ^ k / 2) σ) (parity _ (omega arith)) (parity _ (omega arith)))
 
 meets-high : (care value k : ℕ) (σ : List Bool) → meets k care value (true ∷ σ) ≡ (highIn care value k && meets (suc k) care value σ)
 unfolding fitsWords highIn digit
-meets-high care value k σ = rw (half care k, half value k) (high-bit (care / 2 ^ k % 2) (value / 2 ^ k % 2) (fitsWords (care / 2 ^ k / 2) (value / 2 ^ k / 2) σ) (parity _ (omega arith)) (parity _ (omega arith)))
+meets-high care value k σ = rw (← half care k, ← half value k) (high-bit (care / 2 ^ k % 2) (value / 2 ^ k % 2) (fitsWords (care / 2 ^ k / 2) (value / 2 ^ k / 2) σ) (parity _ (omega arith)) (parity _ (omega arith)))
 
 -- one side of the tree: with w added where the cube is met, or as it is where the cube has none of its states
 side : (care value w n k : ℕ) (f : List Bool → ℕ) (v : Bool) (test : List Bool → Bool) → ((σ : List Bool) → test σ ≡ (v && meets (suc k) care value σ)) → addT n (suc k) care value w (diagram valueEnd n (suc k) f) ≡ diagram valueEnd n (suc k) (λ σ. f σ + pick (meets (suc k) care value σ) w 0) → cond v (addT n (suc k) care value w (diagram valueEnd n (suc k) f)) (diagram valueEnd n (suc k) f) ≡ diagram valueEnd n (suc k) (λ σ. f σ + pick (test σ) w 0)

@@ -3,6 +3,6 @@ pub mod Cases
 pub mod Counted
 pub mod Shapes
 pub mod Adds
-pub mod Withins
+pub mod Within
 pub mod Meaning
 pub mod Pairs

@@ -1,20 +1,21 @@
 -- The last stage is the diagram of the utility of lists of bits, and its value at the bits of a state is the state's utility. Assumes nothing.
 use Prim.Native.Nat.{ℕ, _+_, _/_, _≤_}
-use mathlib.Core.Path.{_≡_, refl, _∙_}
+use mathlib.Core.Path.{_≡_, _∙_}
 use mathlib.Core.Bool.{Bool, true, false}
 use mathlib.Core.List.{List, [], _∷_}
 use native.Mathlib.Omega.{arith}
 use native.Mathlib.Nat.{div-one}
 use Rattle.planning.specs.Connectives.{pick}
-use Rattle.planning.specs.Model.{Term, Task, stateUtility, ceiling}
+use Rattle.planning.specs.Model.{Term, Task, stateUtility}
 use Rattle.planning.specs.Good.{Terms}
 use Rattle.planning.specs.Coding.{bits, offset, code, fits, fitsWords, factsLits, careWord, valueWord, Valid, Facts, Rising}
-use Rattle.planning.proofs.Facts.{holds-fits, facts-rising}
+use Rattle.planning.proofs.Facts.{facts-rising}
 use Rattle.planning.proofs.Cubes.{fits-words}
 use Rattle.planning.proofs.Values.{length-code}
 use Rattle.diagrams.specs.Tree.{Tree, none, valueEnd, diagram}
 use Rattle.diagrams.proofs.Diagrams.{diagram-same}
 use Rattle.search_theory.specs.Bits.{bitUtility, reward}
+use Rattle.search_theory.proofs.Task.{all-terms}
 use Rattle.utility.specs.Values.{valueAt}
 use Rattle.utility.specs.Adding.{addT}
 use Rattle.utility.specs.Stages.{plusTerm, stagesFrom, stages, utilityTree}
@@ -26,7 +27,7 @@ unfoldable pub lastOf : Tree → List Tree → Tree
 lastOf t [] = t
 lastOf t (u ∷ us) = lastOf u us
 
-pub stages-last : (ds : List ℕ) (ts : List Term) (f : List Bool → ℕ) (t : Tree) → lastOf t (stagesFrom ds ts f) ≡ diagram valueEnd (bits ds) 0 (λ σ. f σ + bitUtility ds ts σ)
+stages-last : (ds : List ℕ) (ts : List Term) (f : List Bool → ℕ) (t : Tree) → lastOf t (stagesFrom ds ts f) ≡ diagram valueEnd (bits ds) 0 (λ σ. f σ + bitUtility ds ts σ)
 unfolding lastOf stagesFrom bitUtility plusTerm
 stages-last ds [] f t = diagram-same valueEnd (bits ds) 0 f (λ σ. f σ + 0) (λ σ _. omega arith)
 stages-last ds (x ∷ xs) f t =
@@ -38,27 +39,16 @@ pub last-stage : (t : Task) → lastOf none (stages t) ≡ utilityTree t
 unfolding stages utilityTree reward
 last-stage t = stages-last (t .sizes) (t .terms) (λ σ. 0) none ∙ diagram-same valueEnd (bits (t .sizes)) 0 (λ σ. 0 + bitUtility (t .sizes) (t .terms) σ) (reward t) (λ σ _. omega arith)
 
-pub utility-bits : (ds s : List ℕ) (ts : List Term) → Valid ds s → Terms ds ts → bitUtility ds ts (code ds s) ≡ stateUtility ts s
-unfolding bitUtility stateUtility
-utility-bits ds s [] v h = refl
-utility-bits ds s (t ∷ ts) v h = rw (holds-fits ds s 0 (t .facts) v (h .0), utility-bits ds s ts v (h .1))
-
 -- the utility diagram's value at the bits of a state is the state's utility
 pub value-utility : (t : Task) (s : List ℕ) → Valid (t .sizes) s → Terms (t .sizes) (t .terms) → bits (t .sizes) ≤ 64 → valueAt (utilityTree t) (code (t .sizes) s) ≡ stateUtility (t .terms) s
 unfolding utilityTree reward
 value-utility t s v h le =
-    value-diagram (bits (t .sizes)) 0 (reward t) (code (t .sizes) s) (omega (arith, length-code (t .sizes) s)) (omega arith) ∙ utility-bits (t .sizes) s (t .terms) v h
+    value-diagram (bits (t .sizes)) 0 (reward t) (code (t .sizes) s) (omega (arith, length-code (t .sizes) s)) (omega arith) ∙ all-terms (t .sizes) (t .terms) s h v
 
 pub at-most : (b : Bool) (w : ℕ) → pick b w 0 ≤ w
 unfolding pick
 at-most true w = omega arith
 at-most false w = omega arith
-
--- no list of bits has a utility above the ceiling
-pub bits-ceiling : (ds : List ℕ) (ts : List Term) (σ : List Bool) → bitUtility ds ts σ ≤ ceiling ts
-unfolding bitUtility ceiling
-bits-ceiling ds [] σ = omega arith
-bits-ceiling ds (t ∷ ts) σ = omega (arith, at-most (fits (factsLits ds (t .facts)) σ) (t .weight), bits-ceiling ds ts σ)
 
 -- what the stage after one with the function f is made of: the term's cube, added to the diagram of f
 pub add-term : (ds : List ℕ) (t : Term) (f : List Bool → ℕ) → Facts ds 0 (t .facts) → bits ds ≤ 64 → addT (bits ds) 0 (careWord (factsLits ds (t .facts))) (valueWord (factsLits ds (t .facts))) (t .weight) (diagram valueEnd (bits ds) 0 f) ≡ diagram valueEnd (bits ds) 0 (plusTerm ds t f)

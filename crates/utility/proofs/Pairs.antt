@@ -2,7 +2,7 @@
 use Prim.Native.Nat.{ℕ, zero, suc, _+_, _-_, _≤_, _<_, min}
 use mathlib.Core.Path.{_≡_, refl, sym, ap, _∙_}
 use mathlib.Core.Bool.{true, false}
-use mathlib.Core.Logic.{_⊎_, ⊎-elim}
+use mathlib.Core.Logic.{⊎-elim}
 use mathlib.Core.List.{List}
 use native.Mathlib.Omega.{arith}
 use lib.ListN.{getD}
@@ -20,7 +20,7 @@ use Rattle.diagrams.proofs.Memos.{memo-extends}
 use Rattle.utility.specs.Within.{withinT}
 use Rattle.utility.specs.Reading.{nodes, endOf, pairOf}
 use Rattle.utility.specs.declared.Ending.{Ending}
-use Rattle.utility.proofs.Withins.{Walks, within-end, within-none, within-all, within-lead}
+use Rattle.utility.proofs.Within.{Walks, within-end, within-none, within-all, within-lead}
 
 -- a store that is only read needs no working lists
 abbrev pub bare : Table → Table

@@ -1,5 +1,5 @@
 -- The sides of a tree at a bit, and the values of the diagram of a function. Assumes nothing.
-use Prim.Native.Nat.{ℕ, zero, suc, _+_, _-_, _≤_, _<_}
+use Prim.Native.Nat.{ℕ, zero, suc, _+_, _≤_, _<_}
 use mathlib.Core.Path.{_≡_, refl, subst, _∙_}
 use mathlib.Core.Bool.{Bool, true, false, cond}
 use mathlib.Core.Logic.{_⊎_, ⊎-elim}
@@ -18,13 +18,13 @@ pub equal : (t u : Tree) → (t ≡ u) ⊎ (t ≡ u → ⊥)
 equal t u = ⊎-elim (λ (e : same t u ≡ true). _⊎_.inl (same-true t u e)) (λ (e : same t u ≡ false). _⊎_.inr (λ q. no-both (subst (λ (x : Tree). same t x ≡ true) q (same-refl t)) e)) (test (same t u))
 
 -- a tree of greater bits is its own side
-pub low-self : (k : ℕ) (t : Tree) → Canon (suc k) t → lowT k t ≡ t
+low-self : (k : ℕ) (t : Tree) → Canon (suc k) t → lowT k t ≡ t
 unfolding lowT Canon
 low-self k none c = refl
 low-self k all c = refl
 low-self k (node b l h) c = rw (ne-eqb b k (omega (arith, c .0)))
 
-pub high-self : (k : ℕ) (t : Tree) → Canon (suc k) t → highT k t ≡ t
+high-self : (k : ℕ) (t : Tree) → Canon (suc k) t → highT k t ≡ t
 unfolding highT Canon
 high-self k none c = refl
 high-self k all c = refl
@@ -45,7 +45,7 @@ under-more m n all le b = tt
 under-more m n (node c l h) le b = (omega (arith, b .0), under-more m n l le (b .1), under-more m n h le (b .2))
 
 -- the value at a node made of two sides
-pub value-mkT : (k : ℕ) (l h : Tree) (σ : List Bool) → k < 64 → valueAt (mkT k l h) σ ≡ cond (bitAt σ k) (valueAt h σ) (valueAt l σ)
+value-mkT : (k : ℕ) (l h : Tree) (σ : List Bool) → k < 64 → valueAt (mkT k l h) σ ≡ cond (bitAt σ k) (valueAt h σ) (valueAt l σ)
 unfolding valueAt
 value-mkT k l h σ lt = ⊎-elim (λ (e : l ≡ h). rw (mkT-same k l h e) (rw e (both (bitAt σ k) (valueAt h σ)))) (λ (n : l ≡ h → ⊥). rw (mkT-node k l h n, lt-ltb k 64 lt)) (equal l h)
   where

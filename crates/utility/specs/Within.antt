@@ -35,12 +35,12 @@ mostEnd t v = cond (same t none) 0 (suc v)
 unfoldable pub mostT : Tree → Tree → ℕ
 mostT t u = withinT mostEnd (λ _ x y. max x y) t u
 
-unfoldable pub havingEnd : ℕ → Tree → ℕ → Tree
-havingEnd x t v = cond (eqb v x) t none
+unfoldable pub selectEnd : ℕ → Tree → ℕ → Tree
+selectEnd x t v = cond (eqb v x) t none
 
 -- the states of t at which the diagram u has the value x
-unfoldable pub havingT : ℕ → Tree → Tree → Tree
-havingT x t u = withinT (havingEnd x) mkT t u
+unfoldable pub selectT : ℕ → Tree → Tree → Tree
+selectT x t u = withinT (selectEnd x) mkT t u
 
 -- 0 for nothing, else the value and 1
 unfoldable pub asNumber : Option ℕ → ℕ

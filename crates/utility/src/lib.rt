@@ -36,6 +36,19 @@ pub fn end(ubit: &[u32], u: u32) -> Ending
     }
 }
 
+// A bit, and the names on its two sides: those of a set and those of the utility diagram.
+fn sides(bit: u32, al: u32, ah: u32, bl: u32, bh: u32) -> Split
+    ensures { λ r. ⌜ r ≡ record { bit = bit; al = al; ah = ah; bl = bl; bh = bh } ⌝ }
+{
+    Split {
+        bit,
+        al,
+        ah,
+        bl,
+        bh,
+    }
+}
+
 // A name of a set and a name of the utility diagram that stands for no end value, parted at the lesser of their bits.
 pub fn part(
     bit: &[u32],
@@ -54,39 +67,15 @@ pub fn part(
     let j = u as usize - 2;
     let c = ubit[j];
     if a < 2 {
-        return Split {
-            bit: c,
-            al: a,
-            ah: a,
-            bl: ulow[j],
-            bh: uhigh[j],
-        };
+        return sides(c, a, a, ulow[j], uhigh[j]);
     }
     let i = a as usize - 2;
     let b = bit[i];
     if b < c {
-        return Split {
-            bit: b,
-            al: low[i],
-            ah: high[i],
-            bl: u,
-            bh: u,
-        };
+        return sides(b, low[i], high[i], u, u);
     }
     if c < b {
-        return Split {
-            bit: c,
-            al: a,
-            ah: a,
-            bl: ulow[j],
-            bh: uhigh[j],
-        };
+        return sides(c, a, a, ulow[j], uhigh[j]);
     }
-    Split {
-        bit: b,
-        al: low[i],
-        ah: high[i],
-        bl: ulow[j],
-        bh: uhigh[j],
-    }
+    sides(b, low[i], high[i], ulow[j], uhigh[j])
 }

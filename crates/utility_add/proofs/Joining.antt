@@ -38,7 +38,7 @@ added-grow s s′ st n t d care value w a k r q =
       means = rw (done-tree s s′ st n t d a (q .a-below), done-tree s s′ st n t d r (q .r-below)) (q .means);
     }
 
-pub memo-added : (s s′ : Table) (st : Store s) (n : ℕ) (t : Tree) (d : Done s s′ n t) (stamp care value w : ℕ) (memo : List ℕ) → Stamped s memo stamp (Added s care value w) → Stamped s′ memo stamp (Added s′ care value w)
+memo-added : (s s′ : Table) (st : Store s) (n : ℕ) (t : Tree) (d : Done s s′ n t) (stamp care value w : ℕ) (memo : List ℕ) → Stamped s memo stamp (Added s care value w) → Stamped s′ memo stamp (Added s′ care value w)
 memo-added s s′ st n t d stamp care value w memo m =
     stamped-weaken s s′ memo stamp (Added s care value w) (Added s′ care value w) (added-grow s s′ st n t d care value w) (memo-grow s s′ st n t d memo (m .base)) m
 
@@ -51,22 +51,22 @@ flat s true k care value w (suc (suc n)) lt = absurd (omega arith)
 flat s false k care value w n lt = refl
 
 module _ (s : Table) (st : Store s) (stamp k care value w a : ℕ) (ask : Asks s k care w a) (memo : List ℕ) (m : Stamped s memo stamp (Added s care value w)) where
-  idle : (f : Bool) (n : ℕ) → n < s .count + 2 → tree s n ≡ addAt f k care value w (tree s a) → Adds s s memo stamp care value w (record { name = n; count = s .count; full = false }) (addAt f k care value w (tree s a))
-  idle f n lt e = record { makes = kept s st n _ lt e; keeps = λ _. m }
+  unchanged : (f : Bool) (n : ℕ) → n < s .count + 2 → tree s n ≡ addAt f k care value w (tree s a) → Adds s s memo stamp care value w (record { name = n; count = s .count; full = false }) (addAt f k care value w (tree s a))
+  unchanged f n lt e = record { makes = kept s st n _ lt e; keeps = λ _. m }
 
   -- the cube has none of the states
   pub add-out : (f : Bool) → f ≡ false → Adds s s memo stamp care value w (record { name = a; count = s .count; full = false }) (addAt f k care value w (tree s a))
   unfolding addAt
-  add-out f e = idle f a (ask .below) (rw e)
+  add-out f e = unchanged f a (ask .below) (rw e)
 
   -- a name without a node
   pub add-flat : (f : Bool) → a < 2 → Adds s s memo stamp care value w (record { name = a; count = s .count; full = false }) (addAt f k care value w (tree s a))
-  add-flat f lt = idle f a (ask .below) (flat s f k care value w a lt)
+  add-flat f lt = unchanged f a (ask .below) (flat s f k care value w a lt)
 
   -- the memo has the result
   pub add-known : (f : Bool) (r : Recalled) → f ≡ true → Recalls memo stamp a k r → r .known ≡ true → Adds s s memo stamp care value w (record { name = r .name; count = s .count; full = false }) (addAt f k care value w (tree s a))
   unfolding addAt
-  add-known f r e rc kn = let q = stamped-recall s memo stamp (Added s care value w) a k r m rc kn in idle f (r .name) (q .r-below) (rw e (q .means))
+  add-known f r e rc kn = let q = stamped-recall s memo stamp (Added s care value w) a k r m rc kn in unchanged f (r .name) (q .r-below) (rw e (q .means))
 
   -- an end value
   pub add-end : (f : Bool) (p : Step) → f ≡ true → Ends s k care value w a p → (s′ : Table) (r : Made) → Makes s s′ r (mkT (p .bit + w) (tree s 0) (tree s 1)) → Adds s s′ memo stamp care value w r (addAt f k care value w (tree s a))

@@ -37,7 +37,7 @@ module _ (f : List ℕ) (s : Table) (memo : List ℕ) (a t : ℕ) (rd : Ready f 
   end = stage f (terms f)
 
   -- all terms are added
-  pub none-left : terms f ≤ t → MakesAllWith s s memo (record { name = a; count = s .count; full = false }) after end
+  none-left : terms f ≤ t → MakesAllWith s s memo (record { name = a; count = s .count; full = false }) after end
   unfolding stagesAfter AllInside
   none-left le =
       let e : t ≡ terms f = omega (arith, rd .last) in
@@ -49,14 +49,14 @@ module _ (f : List ℕ) (s : Table) (memo : List ℕ) (a t : ℕ) (rd : Ready f 
     unfolding stagesAfter
     one-more = let e : terms f - t ≡ suc (terms f - (t + 1)) = omega arith in rw (e, add-one t)
 
-    pub term-full : r .full ≡ true → (s′ : Table) (memo′ : List ℕ) → MakesAllWith s s′ memo′ r after end
+    term-full : r .full ≡ true → (s′ : Table) (memo′ : List ℕ) → MakesAllWith s s′ memo′ r after end
     term-full e s′ memo′ = rw one-more (with-full s s₁ s′ memo₁ memo′ r (stage f (suc t) ∷ []) (stagesAfter f (terms f - (t + 1)) (t + 1)) (stage f (suc t)) end (with-one s s₁ memo₁ r (stage f (suc t)) (m .makes)) e)
 
     module _ (e : r .full ≡ false) where
       abbrev done : Done s s₁ (r .name) (stage f (suc t))
       done = m .makes .makes .done e
 
-      pub next-ready : Ready f s₁ memo₁ (r .name) (t + 1)
+      next-ready : Ready f s₁ memo₁ (r .name) (t + 1)
       next-ready =
           record {
             right = rd .right;
@@ -68,9 +68,28 @@ module _ (f : List ℕ) (s : Table) (memo : List ℕ) (a t : ℕ) (rd : Ready f 
             sums = rw (add-one t) (sum-more f t (m .light) (rd .sums));
           }
 
-      pub terms-made : length (s₁ .bit) ≡ length (s .bit) → (s₂ : Table) (memo₂ : List ℕ) (q : Made) → MakesAllWith s₁ s₂ memo₂ q (stagesAfter f (terms f - (t + 1)) (t + 1)) end → MakesAllWith s s₂ memo₂ q after end
+      terms-made : length (s₁ .bit) ≡ length (s .bit) → (s₂ : Table) (memo₂ : List ℕ) (q : Made) → MakesAllWith s₁ s₂ memo₂ q (stagesAfter f (terms f - (t + 1)) (t + 1)) end → MakesAllWith s s₂ memo₂ q after end
       terms-made len s₂ memo₂ q n =
           rw one-more (with-then s s₁ s₂ (rd .store) memo₂ (r .name) q (stage f (suc t) ∷ []) (stagesAfter f (terms f - (t + 1)) (t + 1)) (stage f (suc t)) end (with-one s s₁ memo₁ r (stage f (suc t)) (m .makes) .makes .done e) len n)
+
+-- the first k terms are added, t of them before; what is made of the rest is then made of all
+pub record TermsAdded (f : List ℕ) (s₀ s : Table) (memo : List ℕ) (name t k : ℕ) : Type 0 where
+  pub ready : Ready f s memo name k
+  pub rest : (s′ : Table) (memo′ : List ℕ) (r : Made) → MakesAllWith s s′ memo′ r (stagesAfter f (terms f - k) k) (stage f (terms f)) → MakesAllWith s₀ s′ memo′ r (stagesAfter f (terms f - t) t) (stage f (terms f))
+
+pub added-none : (f : List ℕ) (s : Table) (memo : List ℕ) (a t : ℕ) → Ready f s memo a t → TermsAdded f s s memo a t t
+added-none f s memo a t rd = record { ready = rd; rest = λ s′ memo′ r m. m }
+
+module _ (f : List ℕ) (s₀ s : Table) (memo : List ℕ) (name t k : ℕ) (p : TermsAdded f s₀ s memo name t k) where
+  pub added-end : terms f ≤ k → MakesAllWith s₀ s memo (record { name = name; count = s .count; full = false }) (stagesAfter f (terms f - t) t) (stage f (terms f))
+  added-end le = p .rest s memo _ (none-left f s memo name k (p .ready) le)
+
+  module _ (lt : k < terms f) (s₁ : Table) (memo₁ : List ℕ) (r : Made) (m : AddsTerm f s s₁ memo₁ r k) where
+    pub added-full : r .full ≡ true → MakesAllWith s₀ s₁ memo₁ r (stagesAfter f (terms f - t) t) (stage f (terms f))
+    added-full e = p .rest s₁ memo₁ r (term-full f s memo name k (p .ready) lt s₁ memo₁ r m e s₁ memo₁)
+
+    pub added-next : r .full ≡ false → length (s₁ .bit) ≡ length (s .bit) → TermsAdded f s₀ s₁ memo₁ (r .name) t (k + 1)
+    added-next e len = record { ready = next-ready f s memo name k (p .ready) lt s₁ memo₁ r m e; rest = λ s′ memo′ q n. p .rest s′ memo′ q (terms-made f s memo name k (p .ready) lt s₁ memo₁ r m e len s′ memo′ q n) }
 
 -- the diagram of a constant is its end
 constant : (n k a : ℕ) → diagram valueEnd n k (λ σ. a) ≡ valueEnd a
@@ -80,7 +99,7 @@ constant (suc n) k a = rw (constant n (suc k) a) (mkT-same k (valueEnd a) (value
 
 -- the stages by number are those of the definition
 module _ (f : List ℕ) where
-  pub stage-zero : stage f 0 ≡ mkT 64 none all
+  stage-zero : stage f 0 ≡ mkT 64 none all
   unfolding stage sumTo valueEnd mkT same
   stage-zero = constant (bits (sizes f)) 0 0
 
@@ -89,7 +108,7 @@ module _ (f : List ℕ) where
   from-stage zero t = refl
   from-stage (suc n) t = ap (λ (us : List Tree). stage f t ∷ us) (from-stage n (suc t))
 
-  pub all-stages : stages (taskOf f) ≡ stage f 0 ∷ stagesAfter f (terms f) 0
+  all-stages : stages (taskOf f) ≡ stage f 0 ∷ stagesAfter f (terms f) 0
   unfolding stages taskOf sumTo
   all-stages = from-stage (terms f) 0
 
@@ -98,7 +117,7 @@ module _ (f : List ℕ) where
   last-after zero t = ap (stage f) (omega arith)
   last-after (suc n) t = last-after n (suc t) ∙ ap (stage f) (omega arith)
 
-  pub stage-last : stage f (terms f) ≡ utilityTree (taskOf f)
+  stage-last : stage f (terms f) ≡ utilityTree (taskOf f)
   unfolding lastOf
   stage-last = sym (last-after (terms f) 0 ∙ ap (stage f) (zero-add (terms f))) ∙ ap (lastOf none) (sym all-stages) ∙ last-stage (taskOf f)
 

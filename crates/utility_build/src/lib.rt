@@ -1,5 +1,6 @@
 // The utility diagram of the task that a file holds: the constant 0, then each term added in turn.
 use diagrams::Made;
+use diagrams::done;
 ghost use mathlib.Core.Path.{_≡_};
 ghost use mathlib.Core.Bool.{true};
 ghost use Prim.Native.Nat.{_-_, _<_, _≤_};
@@ -25,7 +26,10 @@ fn add_term(
     t: usize,
 ) -> Made
     requires { ⌜ Ready (now file) (table (now bit) (now low) (now high) (now heads) (now chain) count) (now memo) a t × (t < terms (now file)) ⌝ }
-    ensures { λ r. ⌜ AddsTerm (now (file .entry)) (table (now (bit .entry)) (now (low .entry)) (now (high .entry)) (now (heads .entry)) (now (chain .entry)) count) (table (now (bit .exit)) (now (low .exit)) (now (high .exit)) (now (heads .exit)) (now (chain .exit)) (r .count)) (now (memo .exit)) r t ⌝ }
+    ensures { λ r.
+        let s = table (now (bit .entry)) (now (low .entry)) (now (high .entry)) (now (heads .entry)) (now (chain .entry)) count in
+        let s′ = table (now (bit .exit)) (now (low .exit)) (now (high .exit)) (now (heads .exit)) (now (chain .exit)) (r .count) in
+        ⌜ AddsTerm (now (file .entry)) s s′ (now (memo .exit)) r t ⌝ }
 {
     let cube = task::model::term_cube(file, t);
     let weight = task::model::term_weight(file, t) as u32;
@@ -63,31 +67,26 @@ fn add_terms(
     t: usize,
 ) -> Made
     requires { ⌜ Ready (now file) (table (now bit) (now low) (now high) (now heads) (now chain) count) (now memo) a t ⌝ }
-    ensures { λ r. ⌜ MakesAllWith (table (now (bit .entry)) (now (low .entry)) (now (high .entry)) (now (heads .entry)) (now (chain .entry)) count) (table (now (bit .exit)) (now (low .exit)) (now (high .exit)) (now (heads .exit)) (now (chain .exit)) (r .count)) (now (memo .exit)) r (stagesAfter (now (file .entry)) (terms (now (file .entry)) - t) t) (stage (now (file .entry)) (terms (now (file .entry)))) ⌝ }
+    ensures { λ r.
+        let s = table (now (bit .entry)) (now (low .entry)) (now (high .entry)) (now (heads .entry)) (now (chain .entry)) count in
+        let s′ = table (now (bit .exit)) (now (low .exit)) (now (high .exit)) (now (heads .exit)) (now (chain .exit)) (r .count) in
+        let f = now (file .entry) in
+        ⌜ MakesAllWith s s′ (now (memo .exit)) r (stagesAfter f (terms f - t) t) (stage f (terms f)) ⌝ }
 {
-    if task::header::terms(file) <= t {
-        return Made {
-            name: a,
-            count,
-            full: false,
-        };
+    let n = task::header::terms(file);
+    let mut name = a;
+    let mut entries = count;
+    let mut k = t;
+    while k < n {
+        let r = add_term(file, bit, low, high, heads, chain, memo, entries, name, k);
+        if r.full {
+            return r;
+        }
+        name = r.name;
+        entries = r.count;
+        k += 1;
     }
-    let r = add_term(file, bit, low, high, heads, chain, memo, count, a, t);
-    if r.full {
-        return r;
-    }
-    add_terms(
-        file,
-        bit,
-        low,
-        high,
-        heads,
-        chain,
-        memo,
-        r.count,
-        r.name,
-        t + 1,
-    )
+    done(name, entries)
 }
 
 // The utility diagram of an accepted file's task. What the lists hold before does not matter.
@@ -102,7 +101,10 @@ pub fn build(
 ) -> Made
     requires { ⌜ accepted (now file) ≡ true ⌝ }
     requires { ⌜ (length (now low) ≡ length (now bit)) × (length (now high) ≡ length (now bit)) × (length (now bit) ≤ 1048576) ⌝ }
-    ensures { λ r. ⌜ Builds (table (now (bit .entry)) (now (low .entry)) (now (high .entry)) (now (heads .entry)) (now (chain .entry)) 0) (table (now (bit .exit)) (now (low .exit)) (now (high .exit)) (now (heads .exit)) (now (chain .exit)) (r .count)) r (taskOf (now (file .entry))) ⌝ }
+    ensures { λ r.
+        let s = table (now (bit .entry)) (now (low .entry)) (now (high .entry)) (now (heads .entry)) (now (chain .entry)) 0 in
+        let s′ = table (now (bit .exit)) (now (low .exit)) (now (high .exit)) (now (heads .exit)) (now (chain .exit)) (r .count) in
+        ⌜ Builds s s′ r (taskOf (now (file .entry))) ⌝ }
 {
     diagrams::clear(heads);
     diagrams::begin(memo);

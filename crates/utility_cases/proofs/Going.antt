@@ -10,7 +10,7 @@ use Rattle.diagrams.specs.Memo.{MakesWith}
 use Rattle.diagrams.specs.declared.Made.{Made}
 use Rattle.diagrams.proofs.Trees.{no-both}
 use Rattle.diagrams.proofs.Steps.{done-count}
-use Rattle.utility_cases.specs.Ready.{Ready, Goes}
+use Rattle.utility_cases.specs.Ready.{Goes}
 
 -- full lists promise nothing
 pub stops : (s : Table) (memo : List ℕ) (r : Made) → r .full ≡ true → Goes s memo r

@@ -3,6 +3,7 @@
 // lists of one less; a sum over its values at every list of bits; and, within random sets, the greatest utility and 1, and a sum over the
 // states that have it.
 use diagrams::Made;
+use diagrams::done;
 use task::bytes::le32;
 ghost use mathlib.Core.Path.{_≡_};
 ghost use mathlib.Core.Bool.{true};
@@ -134,7 +135,10 @@ fn cube(
     value: u64,
 ) -> Made
     requires { ⌜ Ready (table (now bit) (now low) (now high) (now heads) (now chain) count) (now memo) 1 ⌝ }
-    ensures { λ r. ⌜ MakesWith (table (now (bit .entry)) (now (low .entry)) (now (high .entry)) (now (heads .entry)) (now (chain .entry)) count) (table (now (bit .exit)) (now (low .exit)) (now (high .exit)) (now (heads .exit)) (now (chain .exit)) (r .count)) (now (memo .exit)) r (meetT 64 0 care value (tree (table (now (bit .entry)) (now (low .entry)) (now (high .entry)) (now (heads .entry)) (now (chain .entry)) count) 1)) ⌝ }
+    ensures { λ r.
+        let s = table (now (bit .entry)) (now (low .entry)) (now (high .entry)) (now (heads .entry)) (now (chain .entry)) count in
+        let s′ = table (now (bit .exit)) (now (low .exit)) (now (high .exit)) (now (heads .exit)) (now (chain .exit)) (r .count) in
+        ⌜ MakesWith s s′ (now (memo .exit)) r (meetT 64 0 care value (tree s 1)) ⌝ }
 {
     diagram_cubes::demand(bit, low, high, heads, chain, memo, count, 0, care, value, 1)
 }
@@ -215,11 +219,7 @@ fn random_set(
         x = draw(draw(x));
         k += 1;
     }
-    Made {
-        name,
-        count: entries,
-        full: false,
-    }
+    done(name, entries)
 }
 
 // Within a random set: the greatest utility and 1, 0 where it is empty, and a sum over the states that have it.
@@ -265,7 +265,7 @@ fn within(
     if top == 0 {
         return;
     }
-    let r = utility_select::having(
+    let r = utility_select::select(
         bit,
         low,
         high,

@@ -14,7 +14,7 @@ use Rattle.diagrams.proofs.Memos.{stamped-recall, stamped-remember}
 use Rattle.utility.specs.Within.{withinT, mostEnd, mostT}
 use Rattle.utility.specs.Reading.{endOf}
 use Rattle.utility.specs.declared.Ending.{Ending}
-use Rattle.utility.proofs.Withins.{most-walks}
+use Rattle.utility.proofs.Within.{most-walks}
 use Rattle.utility.proofs.Pairs.{not-none, end-value, Pair, walk-on}
 use Rattle.utility_greatest.specs.Greatest.{MostOf, Most}
 

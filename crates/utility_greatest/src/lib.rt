@@ -1,13 +1,13 @@
 // The greatest utility of the states in a set. No node is made.
 ghost use mathlib.Core.Path.{_≡_};
-ghost use Prim.Native.Nat.{_+_, _≤_, _<_, max};
+ghost use Prim.Native.Nat.{_+_, _<_, max};
 ghost use Rattle.diagrams.specs.Store.{Store};
 ghost use Rattle.diagrams.specs.Memo.{Memo, Stamped};
 ghost use Rattle.utility.specs.Reading.{nodes};
 ghost use Rattle.utility_greatest.specs.Greatest.{MostOf, Most, Greatest};
 
 // The larger of two numbers.
-pub fn larger(x: u32, y: u32) -> u32
+fn larger(x: u32, y: u32) -> u32
     ensures { λ r. ⌜ r ≡ max x y ⌝ }
 {
     if x < y {
@@ -34,8 +34,13 @@ pub fn most(
 ) -> u32
     requires { ⌜ Store (nodes (now bit) (now low) (now high) count) × Store (nodes (now ubit) (now ulow) (now uhigh) ucount) ⌝ }
     requires { ⌜ (a < count + 2) × (u < ucount + 2) ⌝ }
-    requires { ⌜ Stamped (nodes (now bit) (now low) (now high) count) (now memo) stamp (MostOf (nodes (now bit) (now low) (now high) count) (nodes (now ubit) (now ulow) (now uhigh) ucount)) ⌝ }
-    ensures { λ r. ⌜ Most (nodes (now (bit .entry)) (now (low .entry)) (now (high .entry)) count) (nodes (now (ubit .entry)) (now (ulow .entry)) (now (uhigh .entry)) ucount) (now (memo .exit)) stamp a u r ⌝ }
+    requires { let s = nodes (now bit) (now low) (now high) count in
+        let x = nodes (now ubit) (now ulow) (now uhigh) ucount in
+        ⌜ Stamped s (now memo) stamp (MostOf s x) ⌝ }
+    ensures { λ r.
+        let s = nodes (now (bit .entry)) (now (low .entry)) (now (high .entry)) count in
+        let x = nodes (now (ubit .entry)) (now (ulow .entry)) (now (uhigh .entry)) ucount in
+        ⌜ Most s x (now (memo .exit)) stamp a u r ⌝ }
 {
     if a == 0 {
         return 0;
@@ -99,7 +104,10 @@ pub fn greatest(
     requires { ⌜ Store (nodes (now bit) (now low) (now high) count) × Store (nodes (now ubit) (now ulow) (now uhigh) ucount) ⌝ }
     requires { ⌜ (a < count + 2) × (u < ucount + 2) ⌝ }
     requires { ⌜ Memo (nodes (now bit) (now low) (now high) count) (now memo) ⌝ }
-    ensures { λ r. ⌜ Greatest (nodes (now (bit .entry)) (now (low .entry)) (now (high .entry)) count) (nodes (now (ubit .entry)) (now (ulow .entry)) (now (uhigh .entry)) ucount) (now (memo .exit)) a u r ⌝ }
+    ensures { λ r.
+        let s = nodes (now (bit .entry)) (now (low .entry)) (now (high .entry)) count in
+        let x = nodes (now (ubit .entry)) (now (ulow .entry)) (now (uhigh .entry)) ucount in
+        ⌜ Greatest s x (now (memo .exit)) a u r ⌝ }
 {
     let stamp = diagrams::stamp(memo);
     most(

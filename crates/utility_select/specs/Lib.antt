@@ -1,1 +1,1 @@
-pub mod Having
+pub mod Select

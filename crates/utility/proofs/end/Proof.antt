@@ -6,8 +6,6 @@ use borrow.Author.Tests.{lt-ltb, le-ltb}
 use Rattle.utility.specs.Reading.{endOf}
 use Rattle.utility.proofs.end.Statement.{statement}
 use Rattle.utility.proofs.end.Tie as tie
-use Rattle.utility.proofs.end.Reads as reads
-use Rattle.utility.proofs.end.Lts as lts
 
 returns : tie.Need-returns
 unfolding endOf

@@ -10,6 +10,10 @@ use Rattle.task.specs.Decode.{taskOf, sizes}
 use Rattle.utility_add.specs.Adds.{Added}
 use Rattle.utility_build.proofs.Terms.{term-small, term-asks, term-added}
 
+-- after the term is added
+abbrev added : tie.After-slice-known14 → tie.After-add
+added c = c .before .before .before .before .before .before .before .before .before .before .before .before
+
 term-cube-requires : tie.Need-term-cube-requires
 term-cube-requires c κs = let a = c .before .before .before .before .before .before .before in (a .pre .0 .right, a .pre .1)
 
@@ -37,28 +41,28 @@ add-requires c κs =
     (a .pre .0 .store, (term-asks (now (a .args .file)) (a .pre .0 .right) (a .args .t) (a .pre .1) (q .result) (q .ensures) (w .result) (w .ensures .is) (w .ensures .small) s (now (a .args .memo)) (a .args .a) (a .pre .0), stamp-fresh s (v .last .0) (k .last .0) (k .result) (Added s (q .result .care) (q .result .value) (w .result)) (v .ensures .keeps s (a .pre .0 .slots)) (k .ensures)))
 
 same-length : tie.Need-same-length
-same-length c = c .before .before .before .before .before .before .before .before .before .before .before .before .add .kept .0
+same-length c = added c .add .kept .0
 
 same-length-2 : tie.Need-same-length-2
-same-length-2 c = c .before .before .before .before .before .before .before .before .before .before .before .before .add .kept .1 .0
+same-length-2 c = added c .add .kept .1 .0
 
 same-length-3 : tie.Need-same-length-3
-same-length-3 c = c .before .before .before .before .before .before .before .before .before .before .before .before .add .kept .1 .1 .0
+same-length-3 c = added c .add .kept .1 .1 .0
 
 same-length-4 : tie.Need-same-length-4
-same-length-4 c = c .before .before .before .before .before .before .before .before .before .before .before .before .add .kept .1 .1 .1 .0
+same-length-4 c = added c .add .kept .1 .1 .1 .0
 
 same-length-5 : tie.Need-same-length-5
-same-length-5 c = c .before .before .before .before .before .before .before .before .before .before .before .before .add .kept .1 .1 .1 .1 .0
+same-length-5 c = added c .add .kept .1 .1 .1 .1 .0
 
 same-length-6 : tie.Need-same-length-6
-same-length-6 c = c .before .before .before .before .before .before .before .before .before .before .before .before .add .kept .1 .1 .1 .1 .1 .0 ∙ c .before .before .before .before .before .before .before .before .before .before .before .before .before .before .before .before .before .before .before .before .before .stamp .kept .0 ∙ c .before .before .before .before .before .before .before .before .before .before .before .before .before .before .before .before .before .before .before .before .before .before .before .before .before .widen .kept .0
+same-length-6 c = added c .add .kept .1 .1 .1 .1 .1 .0 ∙ c .before .before .before .before .before .before .before .before .before .before .before .before .before .before .before .before .before .before .before .before .before .stamp .kept .0 ∙ c .before .before .before .before .before .before .before .before .before .before .before .before .before .before .before .before .before .before .before .before .before .before .before .before .before .widen .kept .0
 
 returns : tie.Need-returns
 unfolding taskOf sizes
 returns c =
     let a = c .before .before .before .before .before .before .before .before .before .before .before .before .before .before .before .before .before .before .before .before .before .before .before .before .before .before .before .before .before .before .before .before .before .before .before .before in
-    let d = c .before .before .before .before .before .before .before .before .before .before .before .before .add in
+    let d = added c .add in
     let w = c .before .before .before .before .before .before .before .before .before .before .before .before .before .before .before .before .before .before .before .before .before .before .before .before .before .before .before .term-weight in
     let q = c .before .before .before .before .before .before .before .before .before .before .before .before .before .before .before .before .before .before .before .before .before .before .before .before .before .before .before .before .term-cube in
     let s = table (now (a .args .bit)) (now (a .args .low)) (now (a .args .high)) (now (a .args .heads)) (now (a .args .chain)) (a .args .count) in

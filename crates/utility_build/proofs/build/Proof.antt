@@ -1,14 +1,38 @@
--- `building::build` meets its contract. Assumes nothing.
+-- `utility_build::build` meets its contract. Assumes nothing.
 use borrow.Author.Needs.{needs}
 use native.Mathlib.Omega.{arith}
 use mathlib.Core.Path.{_∙_}
 use denote.Ref.{now}
 use lib.ListN.{length}
 use Rattle.diagrams.specs.Tree.{named, Canon}
-use Rattle.diagrams.specs.Store.{table}
+use Rattle.diagrams.specs.Store.{Table, table}
 use Rattle.utility_build.proofs.Stages.{clear-store, zero-full, zero-ready, whole}
 use Rattle.utility_build.proofs.build.Statement.{statement}
 use Rattle.utility_build.proofs.build.Tie as tie
+
+-- the calls before the returns 1 and 2
+abbrev zero-1 : tie.Then1 → tie.After-mk
+zero-1 c = c .before .before .before .before .before .before .before .before .before .before .before
+
+abbrev added-2 : tie.After-slice-known19 → tie.After-add-terms
+added-2 c = c .before .before .before .before .before .before .before .before .before .before .before .before
+
+abbrev zero-2 : tie.After-slice-known19 → tie.After-mk
+zero-2 c = c .before .before .before .before .before .before .before .before .before .before .before .before .before .before .before .before .before .before .before .before .before .before .before .before .before .before .before .before .before .before
+
+-- before the constant 0 is made: the lists as they came, the heads cleared, the memo begun
+abbrev start : tie.After-mk → tie.Start
+start c = c .before .before .before .before .before .before .before .before .before .before .before .before .before .before .before .before .before .before .before .before .before
+
+abbrev cleared : tie.After-mk → tie.After-clear
+cleared c = c .before .before .before .before .before .before .before .before .before .before .before .before
+
+abbrev begun : tie.After-mk → tie.After-begin
+begun c = c .before .before .before .before .before .before .before .before
+
+-- the lists with the constant 0
+abbrev tab : tie.After-mk → Table
+tab k = table (k .mk .last .0) (k .mk .last .1 .0) (k .mk .last .1 .1 .0) (k .mk .last .1 .1 .1 .0) (k .mk .last .1 .1 .1 .1 .0) (k .mk .result .count)
 
 clear-requires : tie.Need-clear-requires
 clear-requires c κs = search needs
@@ -24,65 +48,65 @@ mk-requires c κs =
     (clear-store (now (a .args .file)) (a .pre .0) (now (a .args .bit)) (now (a .args .low)) (now (a .args .high)) (now (a .args .heads)) (h .clear .last .0) (now (a .args .chain)) (length (now (a .args .heads))) (h .clear .ensures) (a .pre .1 .0) (a .pre .1 .1) (a .pre .1 .2), ((omega arith, omega arith), (tt, tt)))
 
 same-length : tie.Need-same-length
-same-length c = c .before .before .before .before .before .before .before .before .before .before .before .mk .kept .0
+same-length c = zero-1 c .mk .kept .0
 
 same-length-2 : tie.Need-same-length-2
-same-length-2 c = c .before .before .before .before .before .before .before .before .before .before .before .mk .kept .1 .0
+same-length-2 c = zero-1 c .mk .kept .1 .0
 
 same-length-3 : tie.Need-same-length-3
-same-length-3 c = c .before .before .before .before .before .before .before .before .before .before .before .mk .kept .1 .1 .0
+same-length-3 c = zero-1 c .mk .kept .1 .1 .0
 
 same-length-4 : tie.Need-same-length-4
-same-length-4 c = c .before .before .before .before .before .before .before .before .before .before .before .mk .kept .1 .1 .1 .0 ∙ c .before .before .before .before .before .before .before .before .before .before .before .before .before .before .before .before .before .before .before .before .before .before .before .clear .kept .0
+same-length-4 c = zero-1 c .mk .kept .1 .1 .1 .0 ∙ cleared (zero-1 c) .clear .kept .0
 
 same-length-5 : tie.Need-same-length-5
-same-length-5 c = c .before .before .before .before .before .before .before .before .before .before .before .mk .kept .1 .1 .1 .1 .0
+same-length-5 c = zero-1 c .mk .kept .1 .1 .1 .1 .0
 
 same-length-6 : tie.Need-same-length-6
-same-length-6 c = c .before .before .before .before .before .before .before .before .before .before .before .before .before .before .before .before .before .before .before .begin .kept .0
+same-length-6 c = begun (zero-1 c) .begin .kept .0
 
 returns : tie.Need-returns
 returns c =
-    let a = c .before .before .before .before .before .before .before .before .before .before .before .before .before .before .before .before .before .before .before .before .before .before .before .before .before .before .before .before .before .before .before .before in
-    let h = c .before .before .before .before .before .before .before .before .before .before .before .before .before .before .before .before .before .before .before .before .before .before .before in
-    let k = c .before .before .before .before .before .before .before .before .before .before .before in
-    let s = table (k .mk .last .0) (k .mk .last .1 .0) (k .mk .last .1 .1 .0) (k .mk .last .1 .1 .1 .0) (k .mk .last .1 .1 .1 .1 .0) (k .mk .result .count) in
+    let k = zero-1 c in
+    let a = start k in
+    let h = cleared k in
+    let s = tab k in
     zero-full (now (a .args .file)) (a .pre .0) (now (a .args .bit)) (now (a .args .low)) (now (a .args .high)) (now (a .args .heads)) (h .clear .last .0) (now (a .args .chain)) (length (now (a .args .heads))) (h .clear .ensures) (a .pre .1 .0) (a .pre .1 .1) (a .pre .1 .2) s (k .mk .result) (k .mk .ensures) (c .if1 .taken) s
 
 add-terms-requires : tie.Need-add-terms-requires
 add-terms-requires c κs =
-    let a = c .before .before .before .before .before .before .before .before .before .before .before .before .before .before .before .before .before .before .before .before .before .before .before .before .before .before .before .before .before .before .before .before .before .before .before .before .before .before in
-    let h = c .before .before .before .before .before .before .before .before .before .before .before .before .before .before .before .before .before .before .before .before .before .before .before .before .before .before .before .before .before in
-    let m = c .before .before .before .before .before .before .before .before .before .before .before .before .before .before .before .before .before .before .before .before .before .before .before .before .before in
     let k = c .before .before .before .before .before .before .before .before .before .before .before .before .before .before .before .before .before in
-    let s = table (k .mk .last .0) (k .mk .last .1 .0) (k .mk .last .1 .1 .0) (k .mk .last .1 .1 .1 .0) (k .mk .last .1 .1 .1 .1 .0) (k .mk .result .count) in
+    let a = start k in
+    let h = cleared k in
+    let m = begun k in
+    let s = tab k in
     zero-ready (now (a .args .file)) (a .pre .0) (now (a .args .bit)) (now (a .args .low)) (now (a .args .high)) (now (a .args .heads)) (h .clear .last .0) (now (a .args .chain)) (length (now (a .args .heads))) (h .clear .ensures) (a .pre .1 .0) (a .pre .1 .1) (a .pre .1 .2) s (k .mk .result) (k .mk .ensures) (c .before .before .before .before .before .before .if1 .left) (m .begin .last .0) (m .begin .ensures .for s)
 
 same-length-7 : tie.Need-same-length-7
-same-length-7 c = c .before .before .before .before .before .before .before .before .before .before .before .before .add-terms .kept .1 .0 ∙ c .before .before .before .before .before .before .before .before .before .before .before .before .before .before .before .before .before .before .before .before .before .before .before .before .before .before .before .before .before .before .mk .kept .0
+same-length-7 c = added-2 c .add-terms .kept .1 .0 ∙ zero-2 c .mk .kept .0
 
 same-length-8 : tie.Need-same-length-8
-same-length-8 c = c .before .before .before .before .before .before .before .before .before .before .before .before .add-terms .kept .1 .1 .0 ∙ c .before .before .before .before .before .before .before .before .before .before .before .before .before .before .before .before .before .before .before .before .before .before .before .before .before .before .before .before .before .before .mk .kept .1 .0
+same-length-8 c = added-2 c .add-terms .kept .1 .1 .0 ∙ zero-2 c .mk .kept .1 .0
 
 same-length-9 : tie.Need-same-length-9
-same-length-9 c = c .before .before .before .before .before .before .before .before .before .before .before .before .add-terms .kept .1 .1 .1 .0 ∙ c .before .before .before .before .before .before .before .before .before .before .before .before .before .before .before .before .before .before .before .before .before .before .before .before .before .before .before .before .before .before .mk .kept .1 .1 .0
+same-length-9 c = added-2 c .add-terms .kept .1 .1 .1 .0 ∙ zero-2 c .mk .kept .1 .1 .0
 
 same-length-10 : tie.Need-same-length-10
-same-length-10 c = c .before .before .before .before .before .before .before .before .before .before .before .before .add-terms .kept .1 .1 .1 .1 .0 ∙ c .before .before .before .before .before .before .before .before .before .before .before .before .before .before .before .before .before .before .before .before .before .before .before .before .before .before .before .before .before .before .mk .kept .1 .1 .1 .0 ∙ c .before .before .before .before .before .before .before .before .before .before .before .before .before .before .before .before .before .before .before .before .before .before .before .before .before .before .before .before .before .before .before .before .before .before .before .before .before .before .before .before .before .before .clear .kept .0
+same-length-10 c = added-2 c .add-terms .kept .1 .1 .1 .1 .0 ∙ zero-2 c .mk .kept .1 .1 .1 .0 ∙ cleared (zero-2 c) .clear .kept .0
 
 same-length-11 : tie.Need-same-length-11
-same-length-11 c = c .before .before .before .before .before .before .before .before .before .before .before .before .add-terms .kept .1 .1 .1 .1 .1 .0 ∙ c .before .before .before .before .before .before .before .before .before .before .before .before .before .before .before .before .before .before .before .before .before .before .before .before .before .before .before .before .before .before .mk .kept .1 .1 .1 .1 .0
+same-length-11 c = added-2 c .add-terms .kept .1 .1 .1 .1 .1 .0 ∙ zero-2 c .mk .kept .1 .1 .1 .1 .0
 
 same-length-12 : tie.Need-same-length-12
-same-length-12 c = c .before .before .before .before .before .before .before .before .before .before .before .before .add-terms .kept .1 .1 .1 .1 .1 .1 .0 ∙ c .before .before .before .before .before .before .before .before .before .before .before .before .before .before .before .before .before .before .before .before .before .before .before .before .before .before .before .before .before .before .before .before .before .before .before .before .before .before .begin .kept .0
+same-length-12 c = added-2 c .add-terms .kept .1 .1 .1 .1 .1 .1 .0 ∙ begun (zero-2 c) .begin .kept .0
 
 returns-2 : tie.Need-returns-2
 returns-2 c =
-    let a = c .before .before .before .before .before .before .before .before .before .before .before .before .before .before .before .before .before .before .before .before .before .before .before .before .before .before .before .before .before .before .before .before .before .before .before .before .before .before .before .before .before .before .before .before .before .before .before .before .before .before .before in
-    let h = c .before .before .before .before .before .before .before .before .before .before .before .before .before .before .before .before .before .before .before .before .before .before .before .before .before .before .before .before .before .before .before .before .before .before .before .before .before .before .before .before .before .before in
-    let k = c .before .before .before .before .before .before .before .before .before .before .before .before .before .before .before .before .before .before .before .before .before .before .before .before .before .before .before .before .before .before in
-    let g = c .before .before .before .before .before .before .before .before .before .before .before .before in
-    let s = table (k .mk .last .0) (k .mk .last .1 .0) (k .mk .last .1 .1 .0) (k .mk .last .1 .1 .1 .0) (k .mk .last .1 .1 .1 .1 .0) (k .mk .result .count) in
+    let k = zero-2 c in
+    let a = start k in
+    let h = cleared k in
+    let g = added-2 c in
+    let s = tab k in
     whole (now (a .args .file)) (a .pre .0) (now (a .args .bit)) (now (a .args .low)) (now (a .args .high)) (now (a .args .heads)) (h .clear .last .0) (now (a .args .chain)) (length (now (a .args .heads))) (h .clear .ensures) (a .pre .1 .0) (a .pre .1 .1) (a .pre .1 .2) s (k .mk .result) (k .mk .ensures) (c .before .before .before .before .before .before .before .before .before .before .before .before .before .before .before .before .before .before .before .if1 .left) (k .mk .kept .0) (table (g .add-terms .last .1 .0) (g .add-terms .last .1 .1 .0) (g .add-terms .last .1 .1 .1 .0) (g .add-terms .last .1 .1 .1 .1 .0) (g .add-terms .last .1 .1 .1 .1 .1 .0) (g .add-terms .result .count)) (g .add-terms .last .1 .1 .1 .1 .1 .1 .0) (g .add-terms .result) (g .add-terms .ensures)
 
 pub build-spec : {M : Type 1} → statement M

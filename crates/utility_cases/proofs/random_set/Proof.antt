@@ -15,6 +15,16 @@ Inv-loop bit₀ low₀ high₀ heads₀ chain₀ memo₀ states cubes seed name�
 abbrev μ-loop : tie.MeasureT-loop
 μ-loop bit₀ low₀ high₀ heads₀ chain₀ memo₀ states cubes seed name₀ entries₀ x₀ k₀ bit low high heads chain memo name entries x k = cubes - k
 
+-- the calls before the returns 1 and 2
+abbrev changed-1 : tie.Then1 Inv-loop μ-loop → tie.After-change Inv-loop μ-loop
+changed-1 c = c .before .before .before .before .before .before .before .before .before .before .before .before .before
+
+abbrev turn-1 : tie.Then1 Inv-loop μ-loop → tie.At-loop Inv-loop μ-loop
+turn-1 c = c .before .before .before .before .before .before .before .before .before .before .before .before .before .before .before .before .before .before .before .before .before
+
+abbrev turn-2 : tie.After-done Inv-loop μ-loop → tie.At-loop Inv-loop μ-loop
+turn-2 c = c .before .before
+
 loop-holds : tie.Need-loop-holds Inv-loop μ-loop
 loop-holds c =
     let p = c .before .before .before .before .before .before .pre .0 in
@@ -24,25 +34,25 @@ change-requires : tie.Need-change-requires Inv-loop μ-loop
 change-requires c κs = (c .before .before .before .before .before .before .before .loop .inv .0, c .before .before .before .before .before .before .before .before .before .before .before .before .before .before .pre .1)
 
 same-length : tie.Need-same-length Inv-loop μ-loop
-same-length c = c .before .before .before .before .before .before .before .before .before .before .before .before .before .change .kept .0 ∙ c .before .before .before .before .before .before .before .before .before .before .before .before .before .before .before .before .before .before .before .before .before .loop .inv .2
+same-length c = changed-1 c .change .kept .0 ∙ turn-1 c .loop .inv .2
 
 same-length-2 : tie.Need-same-length-2 Inv-loop μ-loop
-same-length-2 c = c .before .before .before .before .before .before .before .before .before .before .before .before .before .change .kept .1 .0 ∙ c .before .before .before .before .before .before .before .before .before .before .before .before .before .before .before .before .before .before .before .before .before .loop .inv .3
+same-length-2 c = changed-1 c .change .kept .1 .0 ∙ turn-1 c .loop .inv .3
 
 same-length-3 : tie.Need-same-length-3 Inv-loop μ-loop
-same-length-3 c = c .before .before .before .before .before .before .before .before .before .before .before .before .before .change .kept .1 .1 .0 ∙ c .before .before .before .before .before .before .before .before .before .before .before .before .before .before .before .before .before .before .before .before .before .loop .inv .4
+same-length-3 c = changed-1 c .change .kept .1 .1 .0 ∙ turn-1 c .loop .inv .4
 
 same-length-4 : tie.Need-same-length-4 Inv-loop μ-loop
-same-length-4 c = c .before .before .before .before .before .before .before .before .before .before .before .before .before .change .kept .1 .1 .1 .0 ∙ c .before .before .before .before .before .before .before .before .before .before .before .before .before .before .before .before .before .before .before .before .before .loop .inv .5
+same-length-4 c = changed-1 c .change .kept .1 .1 .1 .0 ∙ turn-1 c .loop .inv .5
 
 same-length-5 : tie.Need-same-length-5 Inv-loop μ-loop
-same-length-5 c = c .before .before .before .before .before .before .before .before .before .before .before .before .before .change .kept .1 .1 .1 .1 .0 ∙ c .before .before .before .before .before .before .before .before .before .before .before .before .before .before .before .before .before .before .before .before .before .loop .inv .6
+same-length-5 c = changed-1 c .change .kept .1 .1 .1 .1 .0 ∙ turn-1 c .loop .inv .6
 
 same-length-6 : tie.Need-same-length-6 Inv-loop μ-loop
-same-length-6 c = c .before .before .before .before .before .before .before .before .before .before .before .before .before .change .kept .1 .1 .1 .1 .1 .0 ∙ c .before .before .before .before .before .before .before .before .before .before .before .before .before .before .before .before .before .before .before .before .before .loop .inv .7
+same-length-6 c = changed-1 c .change .kept .1 .1 .1 .1 .1 .0 ∙ turn-1 c .loop .inv .7
 
 returns : tie.Need-returns Inv-loop μ-loop
-returns c = c .before .before .before .before .before .before .before .before .before .before .before .before .before .change .ensures
+returns c = changed-1 c .change .ensures
 
 draw-requires : tie.Need-draw-requires Inv-loop μ-loop
 draw-requires c κs = tt
@@ -62,26 +72,55 @@ loop-again c =
     let k = c .before .before .before .before .before .before .before .before .before .before .before .before .before .before .before .change .kept in
     (c .before .before .before .before .before .before .before .before .before .before .before .before .before .before .before .change .ensures .ready (c .before .before .if1 .left), omega (arith, c .before .before .before .before .before .before .before .before .before .before .before .before .before .before .before .before .before .before .before .before .before .before .loop-test .taken), k .0 ∙ i .2, k .1 .0 ∙ i .3, k .1 .1 .0 ∙ i .4, k .1 .1 .1 .0 ∙ i .5, k .1 .1 .1 .1 .0 ∙ i .6, k .1 .1 .1 .1 .1 .0 ∙ i .7)
 
+done-requires : tie.Need-done-requires Inv-loop μ-loop
+done-requires c κs = tt
+
 same-length-7 : tie.Need-same-length-7 Inv-loop μ-loop
-same-length-7 c = c .before .loop .inv .2
+same-length-7 c = turn-2 c .loop .inv .2
 
 same-length-8 : tie.Need-same-length-8 Inv-loop μ-loop
-same-length-8 c = c .before .loop .inv .3
+same-length-8 c = turn-2 c .loop .inv .3
 
 same-length-9 : tie.Need-same-length-9 Inv-loop μ-loop
-same-length-9 c = c .before .loop .inv .4
+same-length-9 c = turn-2 c .loop .inv .4
 
 same-length-10 : tie.Need-same-length-10 Inv-loop μ-loop
-same-length-10 c = c .before .loop .inv .5
+same-length-10 c = turn-2 c .loop .inv .5
 
 same-length-11 : tie.Need-same-length-11 Inv-loop μ-loop
-same-length-11 c = c .before .loop .inv .6
+same-length-11 c = turn-2 c .loop .inv .6
 
 same-length-12 : tie.Need-same-length-12 Inv-loop μ-loop
-same-length-12 c = c .before .loop .inv .7
+same-length-12 c = turn-2 c .loop .inv .7
 
 returns-2 : tie.Need-returns-2 Inv-loop μ-loop
-returns-2 c = record { ready = λ f. c .before .loop .inv .0 }
+returns-2 c = rw (c .done .ensures) record { ready = λ f. turn-2 c .loop .inv .0 }
 
 pub random-set-spec : {M : Type 1} → statement M
-random-set-spec = tie.close (tie.spec Inv-loop μ-loop loop-holds change-requires same-length same-length-2 same-length-3 same-length-4 same-length-5 same-length-6 returns draw-requires draw-requires-2 add-k loop-less loop-again same-length-7 same-length-8 same-length-9 same-length-10 same-length-11 same-length-12 returns-2)
+random-set-spec =
+    tie.close
+    (tie.spec
+    Inv-loop
+    μ-loop
+    loop-holds
+    change-requires
+    same-length
+    same-length-2
+    same-length-3
+    same-length-4
+    same-length-5
+    same-length-6
+    returns
+    draw-requires
+    draw-requires-2
+    add-k
+    loop-less
+    loop-again
+    done-requires
+    same-length-7
+    same-length-8
+    same-length-9
+    same-length-10
+    same-length-11
+    same-length-12
+    returns-2)

@@ -1,4 +1,4 @@
--- `greatest::greatest` meets its contract. Assumes nothing.
+-- `utility_greatest::greatest` meets its contract. Assumes nothing.
 use borrow.Author.Needs.{needs}
 use denote.Ref.{now}
 use Rattle.diagrams.proofs.Memos.{stamp-fresh}
@@ -6,8 +6,6 @@ use Rattle.utility.specs.Reading.{nodes}
 use Rattle.utility_greatest.specs.Greatest.{MostOf}
 use Rattle.utility_greatest.proofs.greatest.Statement.{statement}
 use Rattle.utility_greatest.proofs.greatest.Tie as tie
-use Rattle.utility_greatest.proofs.greatest.Reads as reads
-use Rattle.utility_greatest.proofs.greatest.Lts as lts
 
 stamp-requires : tie.Need-stamp-requires
 stamp-requires c κs = search needs

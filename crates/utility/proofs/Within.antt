@@ -2,7 +2,7 @@
 use Prim.Native.Nat.{ℕ, zero, suc, _+_, _-_, _≤_, _<_, max}
 use mathlib.Core.Path.{_≡_, refl, sym, ap, ap₂, _∙_}
 use mathlib.Core.Bool.{Bool, true, false, cond, _&&_}
-use mathlib.Core.Logic.{_⊎_, ⊎-elim}
+use mathlib.Core.Logic.{⊎-elim}
 use mathlib.Core.List.{List, [], _∷_}
 use mathlib.Core.Option.{Option, some}
 use native.Mathlib.Omega.{arith}
@@ -15,7 +15,7 @@ use Rattle.diagrams.proofs.Canonical.{canon-mkT}
 use Rattle.diagrams.proofs.Diagrams.{canon-set, canon-diagram, canon-valueEnd}
 use Rattle.planning.specs.Connectives.{pick}
 use Rattle.search_theory.specs.Optimum.{larger, most}
-use Rattle.utility.specs.Within.{wholeT, withinT, mostEnd, mostT, havingEnd, havingT, asNumber}
+use Rattle.utility.specs.Within.{wholeT, withinT, mostEnd, mostT, selectEnd, selectT, asNumber}
 use Rattle.utility.proofs.Shapes.{equal}
 
 -- equal sides give what each gives; the empty set has no value; a set that a bit parts gives what its sides give
@@ -73,7 +73,7 @@ module _ {A : Type 0} (end : Tree → ℕ → A) (join : ℕ → A → A → A) 
     both l h m r = rw (lt-ltb k 64 lt, le-ltb k k (omega arith))
 
     -- a bit is parted, whether or not a node stands there
-    pub within-mkT : (l h m r : Tree) → Canon (suc k) l → Canon (suc k) m → walk (mkT k l h) (mkT k m r) ≡ join k (walk l m) (walk h r)
+    within-mkT : (l h m r : Tree) → Canon (suc k) l → Canon (suc k) m → walk (mkT k l h) (mkT k m r) ≡ join k (walk l m) (walk h r)
     within-mkT l h m r cl cm =
         ⊎-elim
         (λ (e : l ≡ h).
@@ -91,11 +91,11 @@ module _ {A : Type 0} (end : Tree → ℕ → A) (join : ℕ → A → A → A) 
         (equal l h)
 
   -- what the walk gives of the lists of n bits
-  unfoldable pub spread : ℕ → ℕ → (List Bool → A) → A
+  unfoldable spread : ℕ → ℕ → (List Bool → A) → A
   spread zero k F = F []
   spread (suc n) k F = join k (spread n (suc k) (λ σ. F (false ∷ σ))) (spread n (suc k) (λ σ. F (true ∷ σ)))
 
-  pub within-diagram : (n k : ℕ) (f : List Bool → Bool) (g : List Bool → ℕ) → k + n ≤ 64 → walk (diagram endT n k f) (diagram valueEnd n k g) ≡ spread n k (λ σ. end (endT (f σ)) (g σ))
+  within-diagram : (n k : ℕ) (f : List Bool → Bool) (g : List Bool → ℕ) → k + n ≤ 64 → walk (diagram endT n k f) (diagram valueEnd n k g) ≡ spread n k (λ σ. end (endT (f σ)) (g σ))
   unfolding diagram valueEnd spread
   within-diagram zero k f g h = within-end (endT (f [])) (64 + g []) none all (omega arith) ∙ ap (end (endT (f []))) (omega arith)
   within-diagram (suc n) k f g h =
@@ -167,17 +167,17 @@ unfolding mostT
 most-diagram n k f g h = within-diagram mostEnd (λ _ x y. max x y) most-walks n k f g h ∙ most-spread n k f g
 
 -- the states that have a value
-having-parts : (x k v : ℕ) (l h : Tree) → (l ≡ h → ⊥) → havingEnd x (node k l h) v ≡ mkT k (havingEnd x l v) (havingEnd x h v)
-unfolding havingEnd
-having-parts x k v l h n = go (eqb v x)
+select-parts : (x k v : ℕ) (l h : Tree) → (l ≡ h → ⊥) → selectEnd x (node k l h) v ≡ mkT k (selectEnd x l v) (selectEnd x h v)
+unfolding selectEnd
+select-parts x k v l h n = go (eqb v x)
   where
     go : (b : Bool) → cond b (node k l h) none ≡ mkT k (cond b l none) (cond b h none)
     go true = sym (mkT-node k l h n)
     go false = sym (mkT-same k none none refl)
 
-pub having-walks : (x : ℕ) → Walks (havingEnd x) mkT
-unfolding havingEnd
-having-walks x = record { idem = λ k t. mkT-same k t t refl; empty = λ v. go (eqb v x) (eqb 0 x); parts = having-parts x }
+pub select-walks : (x : ℕ) → Walks (selectEnd x) mkT
+unfolding selectEnd
+select-walks x = record { idem = λ k t. mkT-same k t t refl; empty = λ v. go (eqb v x) (eqb 0 x); parts = select-parts x }
   where
     go : (a b : Bool) → cond a none none ≡ cond b none none
     go true true = refl
@@ -185,9 +185,9 @@ having-walks x = record { idem = λ k t. mkT-same k t t refl; empty = λ v. go (
     go false true = refl
     go false false = refl
 
-having-value : (x : ℕ) (b : Bool) (v : ℕ) → havingEnd x (endT b) v ≡ endT (b && eqb v x)
-unfolding havingEnd endT
-having-value x b v = go b (eqb v x)
+select-value : (x : ℕ) (b : Bool) (v : ℕ) → selectEnd x (endT b) v ≡ endT (b && eqb v x)
+unfolding selectEnd endT
+select-value x b v = go b (eqb v x)
   where
     go : (b c : Bool) → cond c (endT b) none ≡ endT (b && c)
     go true true = refl
@@ -195,42 +195,42 @@ having-value x b v = go b (eqb v x)
     go false true = refl
     go false false = refl
 
-having-spread : (x n k : ℕ) (f : List Bool → Bool) (g : List Bool → ℕ) → spread (havingEnd x) mkT (having-walks x) n k (λ σ. havingEnd x (endT (f σ)) (g σ)) ≡ diagram endT n k (λ σ. f σ && eqb (g σ) x)
+select-spread : (x n k : ℕ) (f : List Bool → Bool) (g : List Bool → ℕ) → spread (selectEnd x) mkT (select-walks x) n k (λ σ. selectEnd x (endT (f σ)) (g σ)) ≡ diagram endT n k (λ σ. f σ && eqb (g σ) x)
 unfolding diagram spread
-having-spread x zero k f g = having-value x (f []) (g [])
-having-spread x (suc n) k f g = ap₂ (mkT k) (having-spread x n (suc k) (λ σ. f (false ∷ σ)) (λ σ. g (false ∷ σ))) (having-spread x n (suc k) (λ σ. f (true ∷ σ)) (λ σ. g (true ∷ σ)))
+select-spread x zero k f g = select-value x (f []) (g [])
+select-spread x (suc n) k f g = ap₂ (mkT k) (select-spread x n (suc k) (λ σ. f (false ∷ σ)) (λ σ. g (false ∷ σ))) (select-spread x n (suc k) (λ σ. f (true ∷ σ)) (λ σ. g (true ∷ σ)))
 
-pub having-diagram : (x n k : ℕ) (f : List Bool → Bool) (g : List Bool → ℕ) → k + n ≤ 64 → havingT x (diagram endT n k f) (diagram valueEnd n k g) ≡ diagram endT n k (λ σ. f σ && eqb (g σ) x)
-unfolding havingT
-having-diagram x n k f g h = within-diagram (havingEnd x) mkT (having-walks x) n k f g h ∙ having-spread x n k f g
+pub select-diagram : (x n k : ℕ) (f : List Bool → Bool) (g : List Bool → ℕ) → k + n ≤ 64 → selectT x (diagram endT n k f) (diagram valueEnd n k g) ≡ diagram endT n k (λ σ. f σ && eqb (g σ) x)
+unfolding selectT
+select-diagram x n k f g h = within-diagram (selectEnd x) mkT (select-walks x) n k f g h ∙ select-spread x n k f g
 
 -- it is ordered and reduced
-having-end-canon : (x n v : ℕ) (t : Tree) → Canon n t → Canon n (havingEnd x t v)
-unfolding havingEnd Canon
-having-end-canon x n v t c = go (eqb v x)
+select-end-canon : (x n v : ℕ) (t : Tree) → Canon n t → Canon n (selectEnd x t v)
+unfolding selectEnd Canon
+select-end-canon x n v t c = go (eqb v x)
   where
     go : (b : Bool) → Canon n (cond b t none)
     go true = c
     go false = tt
 
-having-whole-canon : (x n : ℕ) (u : Tree) → Canon n u → Canon n (wholeT (havingEnd x) mkT u)
+select-whole-canon : (x n : ℕ) (u : Tree) → Canon n u → Canon n (wholeT (selectEnd x) mkT u)
 unfolding wholeT Canon
-having-whole-canon x n none c = having-end-canon x n 0 all tt
-having-whole-canon x n all c = having-end-canon x n 0 all tt
-having-whole-canon x n (node d m k) c =
+select-whole-canon x n none c = select-end-canon x n 0 all tt
+select-whole-canon x n all c = select-end-canon x n 0 all tt
+select-whole-canon x n (node d m k) c =
     ⊎-elim
-    (λ (e : ltb d 64 ≡ true). rw e (canon-mkT n d _ _ (c .0) (having-whole-canon x (suc d) m (c .2)) (having-whole-canon x (suc d) k (c .3))))
-    (λ (e : ltb d 64 ≡ false). rw e (having-end-canon x n (d - 64) all tt))
+    (λ (e : ltb d 64 ≡ true). rw e (canon-mkT n d _ _ (c .0) (select-whole-canon x (suc d) m (c .2)) (select-whole-canon x (suc d) k (c .3))))
+    (λ (e : ltb d 64 ≡ false). rw e (select-end-canon x n (d - 64) all tt))
     (test (ltb d 64))
 
-having-canon : (x n : ℕ) (t u : Tree) → Canon n t → Canon n u → Canon n (withinT (havingEnd x) mkT t u)
+select-canon : (x n : ℕ) (t u : Tree) → Canon n t → Canon n u → Canon n (withinT (selectEnd x) mkT t u)
 unfolding withinT Canon
-having-canon x n none u ct cu = having-end-canon x n 0 none tt
-having-canon x n all u ct cu = having-whole-canon x n u cu
-having-canon x n (node b l h) u ct cu =
-    (elim u as (λ (u : Tree). (n : ℕ) → Canon n (node b l h) → Canon n u → Canon n (withinT (havingEnd x) mkT (node b l h) u)) [
-      | none ↦ λ n ct cu. having-end-canon x n 0 (node b l h) ct
-      | all ↦ λ n ct cu. having-end-canon x n 0 (node b l h) ct
+select-canon x n none u ct cu = select-end-canon x n 0 none tt
+select-canon x n all u ct cu = select-whole-canon x n u cu
+select-canon x n (node b l h) u ct cu =
+    (elim u as (λ (u : Tree). (n : ℕ) → Canon n (node b l h) → Canon n u → Canon n (withinT (selectEnd x) mkT (node b l h) u)) [
+      | none ↦ λ n ct cu. select-end-canon x n 0 (node b l h) ct
+      | all ↦ λ n ct cu. select-end-canon x n 0 (node b l h) ct
       | node c (m → im) (k → ik) ↦ λ n ct cu.
           ⊎-elim
           (λ (e : ltb c 64 ≡ true).
@@ -238,7 +238,7 @@ having-canon x n (node b l h) u ct cu =
           (λ (p : ltb b c ≡ true).
           let lt = ltb-true b c p in
           let cu′ : Canon (suc b) (node c m k) = (lt, cu .1, cu .2, cu .3) in
-          rw (e, p) (canon-mkT n b _ _ (ct .0) (having-canon x (suc b) l (node c m k) (ct .2) cu′) (having-canon x (suc b) h (node c m k) (ct .3) cu′)))
+          rw (e, p) (canon-mkT n b _ _ (ct .0) (select-canon x (suc b) l (node c m k) (ct .2) cu′) (select-canon x (suc b) h (node c m k) (ct .3) cu′)))
           (λ (p : ltb b c ≡ false).
           ⊎-elim
           (λ (q : ltb c b ≡ true).
@@ -246,13 +246,13 @@ having-canon x n (node b l h) u ct cu =
           rw (e, p, q) (canon-mkT n c _ _ (cu .0) (im (suc c) ct′ (cu .2)) (ik (suc c) ct′ (cu .3))))
           (λ (q : ltb c b ≡ false).
           let bc : b ≡ c = omega (arith, ltb-false b c p, ltb-false c b q) in
-          rw (e, p, q) (canon-mkT n b _ _ (ct .0) (having-canon x (suc b) l m (ct .2) (rw bc (cu .2))) (having-canon x (suc b) h k (ct .3) (rw bc (cu .3)))))
+          rw (e, p, q) (canon-mkT n b _ _ (ct .0) (select-canon x (suc b) l m (ct .2) (rw bc (cu .2))) (select-canon x (suc b) h k (ct .3) (rw bc (cu .3)))))
           (test (ltb c b)))
           (test (ltb b c)))
-          (λ (e : ltb c 64 ≡ false). rw e (having-end-canon x n (c - 64) (node b l h) ct))
+          (λ (e : ltb c 64 ≡ false). rw e (select-end-canon x n (c - 64) (node b l h) ct))
           (test (ltb c 64))
     ]) n ct cu
 
-pub canon-having : (x n : ℕ) (t u : Tree) → Canon n t → Canon n u → Canon n (havingT x t u)
-unfolding havingT
-canon-having x n t u ct cu = having-canon x n t u ct cu
+pub canon-select : (x n : ℕ) (t u : Tree) → Canon n t → Canon n u → Canon n (selectT x t u)
+unfolding selectT
+canon-select x n t u ct cu = select-canon x n t u ct cu
