@@ -1,6 +1,6 @@
 -- Laws that belong to no one function.
 pub mod Trees
-pub mod Spread
+pub mod Places
 pub mod Entries
 pub mod Chains
 pub mod Making

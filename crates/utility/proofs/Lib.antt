@@ -5,4 +5,5 @@ pub mod Shapes
 pub mod Adds
 pub mod Within
 pub mod Meaning
+pub mod Values
 pub mod Pairs

@@ -1,4 +1,4 @@
--- The last stage is the diagram of the utility of lists of bits, and its value at the bits of a state is the state's utility. Assumes nothing.
+-- The last stage is the diagram of the utility of lists of bits; each stage is the one before with a term's cube added. Assumes nothing.
 use Prim.Native.Nat.{ℕ, _+_, _/_, _≤_}
 use mathlib.Core.Path.{_≡_, _∙_}
 use mathlib.Core.Bool.{Bool, true, false}
@@ -6,20 +6,15 @@ use mathlib.Core.List.{List, [], _∷_}
 use native.Mathlib.Omega.{arith}
 use native.Mathlib.Nat.{div-one}
 use Rattle.planning.specs.Connectives.{pick}
-use Rattle.planning.specs.Model.{Term, Task, stateUtility}
-use Rattle.planning.specs.Good.{Terms}
-use Rattle.planning.specs.Coding.{bits, offset, code, fits, fitsWords, factsLits, careWord, valueWord, Valid, Facts, Rising}
+use Rattle.planning.specs.Model.{Term, Task}
+use Rattle.planning.specs.Coding.{bits, offset, fits, fitsWords, factsLits, careWord, valueWord, Facts, Rising}
 use Rattle.planning.proofs.Facts.{facts-rising}
 use Rattle.planning.proofs.Cubes.{fits-words}
-use Rattle.planning.proofs.Values.{length-code}
 use Rattle.diagrams.specs.Tree.{Tree, none, valueEnd, diagram}
 use Rattle.diagrams.proofs.Diagrams.{diagram-same}
 use Rattle.search_theory.specs.Bits.{bitUtility, reward}
-use Rattle.search_theory.proofs.Task.{all-terms}
-use Rattle.utility.specs.Values.{valueAt}
 use Rattle.utility.specs.Adding.{addT}
 use Rattle.utility.specs.Stages.{plusTerm, stagesFrom, stages, utilityTree}
-use Rattle.utility.proofs.Shapes.{value-diagram}
 use Rattle.utility.proofs.Adds.{add-diagram}
 
 -- the last of several trees
@@ -38,12 +33,6 @@ stages-last ds (x ∷ xs) f t =
 pub last-stage : (t : Task) → lastOf none (stages t) ≡ utilityTree t
 unfolding stages utilityTree reward
 last-stage t = stages-last (t .sizes) (t .terms) (λ σ. 0) none ∙ diagram-same valueEnd (bits (t .sizes)) 0 (λ σ. 0 + bitUtility (t .sizes) (t .terms) σ) (reward t) (λ σ _. omega arith)
-
--- the utility diagram's value at the bits of a state is the state's utility
-pub value-utility : (t : Task) (s : List ℕ) → Valid (t .sizes) s → Terms (t .sizes) (t .terms) → bits (t .sizes) ≤ 64 → valueAt (utilityTree t) (code (t .sizes) s) ≡ stateUtility (t .terms) s
-unfolding utilityTree reward
-value-utility t s v h le =
-    value-diagram (bits (t .sizes)) 0 (reward t) (code (t .sizes) s) (omega (arith, length-code (t .sizes) s)) (omega arith) ∙ all-terms (t .sizes) (t .terms) s h v
 
 pub at-most : (b : Bool) (w : ℕ) → pick b w 0 ≤ w
 unfolding pick
