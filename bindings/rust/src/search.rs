@@ -71,7 +71,8 @@ pub enum Place {
     NotReached,
 }
 
-/// The search for the best plan (refusals 1 to 15).
+/// The search for the best plan (refusals 1 to 15). After refusals 1 to 12 the lists hold what they held before; after 13 levels, nodes
+/// and plan do; after 14 and 15 the plan does.
 pub fn search(file: &[u8], lists: &mut Lists) -> Result<Found, Refusal> {
     // SAFETY: the pointers and lengths are those of a slice and of different vectors, lent for the call.
     let report = unsafe {

@@ -8,7 +8,7 @@ use Rattle.search.specs.declared.answer.Searched.{Searched}
 use Rattle.search.specs.Lent.{Lent}
 use Rattle.search.specs.Search.{Searches}
 use Rattle.search.proofs.Demands.{passed}
-use Rattle.osp_list.specs.Fits.{Fits}
+use Rattle.osp_list.specs.StepsFit.{StepsFit}
 
-pub fits : (f : List ℕ) (before after : Lent) (r : Searched) (n : ℕ) → Searches f before after r → length (before .plan) ≡ n → Fits r n
+pub fits : (f : List ℕ) (before after : Lent) (r : Searched) (n : ℕ) → Searches f before after r → length (before .plan) ≡ n → StepsFit r n
 fits f before after r n s e = record { steps = λ l q. omega (arith, passed f before l (sym q ∙ s .answers) .steps) }

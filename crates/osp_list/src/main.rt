@@ -1,17 +1,17 @@
 // osp-list: reads a task file from standard input, searches for its best plan in lists of fixed lengths, and prints the listing or the
 // refusal.
+use record_lookup::operator;
 use search::answer::Listing;
 use search::answer::Searched;
 use search::search::search;
-use task::check::operator;
 use task::records::cost;
 ghost use mathlib.Core.Path.{_≡_};
 ghost use Prim.Native.Nat.{_≤_};
 ghost use lib.ListN.{length};
 ghost use Rattle.task.specs.Bytes.{Reads};
 ghost use Rattle.task.specs.Format.{cost};
-ghost use Rattle.task.specs.Check.{operatorPart};
-ghost use Rattle.osp_list.specs.Fits.{Fits};
+ghost use Rattle.record_lookup.specs.Lookup.{operatorPart};
+ghost use Rattle.osp_list.specs.StepsFit.{StepsFit};
 
 // One byte more than a task file may have, so that a longer input is refused for its length.
 const MOST_BYTES: usize = 16385;
@@ -83,7 +83,7 @@ fn print_figures(found: Listing) {
 
 // The listing, or the refusal with its two numbers.
 fn print_answer(file: &[u8], plan: &[u16], answer: Searched)
-    requires { ⌜ Fits answer (length (now plan)) × (length (now plan) ≤ 4096) ⌝ }
+    requires { ⌜ StepsFit answer (length (now plan)) × (length (now plan) ≤ 4096) ⌝ }
 {
     match answer {
         Searched::Refused { number, place } => {

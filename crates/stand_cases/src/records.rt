@@ -1,6 +1,6 @@
 // The record lookup: an operator's 36 bytes; no bytes for a number without a record, or for a refused file.
 use crate::show;
-use task::check::operator;
+use record_lookup::operator;
 
 // The record of operator o of the task Q.
 fn of_q(name: &[u8], o: usize) {

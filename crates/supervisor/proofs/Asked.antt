@@ -14,7 +14,7 @@ use Rattle.search.specs.declared.answer.Listing.{Listing}
 use Rattle.search.specs.declared.answer.Searched.the-variants.{Found}
 use Rattle.search.specs.Lent.{Lent}
 use Rattle.search.specs.Search.{listingOf, anyWrong, Searches}
-use Rattle.search.proofs.Demands.{Passed, passed}
+use Rattle.search.proofs.Demands.{PassedTests, passed}
 use Rattle.search_theory.specs.Made.{nodeCount}
 use Rattle.question.specs.declared.Answered.{Answered}
 use Rattle.question.specs.declared.Answered.the-variants.{Least, NotReached}
@@ -23,7 +23,7 @@ use Rattle.question.specs.Meaning.{NamesLevels, Tells}
 use Rattle.question.proofs.Theorem.{question-tells, question-least, question-not-reached}
 
 module _ (f : List ℕ) (before after : Lent) (l : Listing) (s : Searches f before after (Found l)) where
-  abbrev p : Passed f before l
+  abbrev p : PassedTests f before l
   p = passed f before l (s .answers)
 
   counted : l .nodes ≡ nodeCount (taskOf f)

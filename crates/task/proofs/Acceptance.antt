@@ -17,7 +17,7 @@ use Rattle.task.specs.Limits.{operatorBytes, mostVariables, mostOperator
 use Rattle.task.specs.Bytes.{part}
 use Rattle.task.specs.Format.{variables, operators, terms, operatorsAt, operatorRecord, termRecord, factVariable, preconditions, effects, termCount, termFacts}
 use Rattle.task.specs.Decode.{sizes}
-use Rattle.task.specs.Check.{countsRight, sectionInside, allInside, headerFault, namesVariable, hasValue, rises, usedRight, unusedRight, factRight, factsRight, variableRight, costRight, factCountsRight, preconditionsRight, effectsRight, operatorRecordRight, operatorRight, termCountsRight, termFactsRight, termRecordRight, termRight, firstBadVariable, firstBadOperator, firstBadTerm, checkTerms, checkOperators, checkBits, checkVariables, checkOf, accepted, operatorPart}
+use Rattle.task.specs.Check.{countsRight, sectionInside, allInside, headerFault, namesVariable, hasValue, rises, usedRight, unusedRight, factRight, factsRight, variableRight, costRight, factCountsRight, preconditionsRight, effectsRight, operatorRecordRight, operatorRight, termCountsRight, termFactsRight, termRecordRight, termRight, firstBadVariable, firstBadOperator, firstBadTerm, checkTerms, checkOperators, checkBits, checkVariables, checkOf, accepted}
 use Rattle.task.specs.Sound.{RightVariable, RightFact, RightRow, RightOperator, RightTerm, Sound}
 use Rattle.planning.proofs.Guards.{pick-yes, and-both}
 use Rattle.planning.proofs.Scan.{every-at}
@@ -157,16 +157,11 @@ module _ (f : List ℕ) (a : accepted f ≡ true) where
 
   module _ (o : ℕ) (l : o < operators f) where
     -- so an operator's record is whole: its bytes are those from its place in the file
-    record-is : operatorRecord f o ≡ take operatorBytes (drop (operatorsAt f + operatorBytes * o) f)
+    pub record-is : operatorRecord f o ≡ take operatorBytes (drop (operatorsAt f + operatorBytes * o) f)
     unfolding operatorRecord part
     record-is =
         let ends = operators-end in
         sym (pick-yes _ _ _ _ (le-leb (operatorsAt f + operatorBytes * o + operatorBytes) (length f) (omega arith)) refl)
-
-    -- and handed out so
-    pub operator-is : operatorPart f o ≡ take operatorBytes (drop (operatorsAt f + operatorBytes * o) f)
-    unfolding operatorPart
-    operator-is = sym (pick-yes _ _ _ _ a (pick-yes _ _ _ _ (lt-ltb _ _ l) (sym record-is)))
 
     record-long : length (operatorRecord f o) ≡ operatorBytes
     record-long =

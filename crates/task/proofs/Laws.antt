@@ -1,6 +1,6 @@
 -- Laws of the reads, the parts and the check's answer, each in the direction in which a need asks it.
 use Prim.Native.Nat.{ℕ, _+_, _-_, _≤_, _<_}
-use mathlib.Core.Path.{_≡_, refl, sym, ap, _∙_}
+use mathlib.Core.Path.{_≡_, sym, ap, _∙_}
 use mathlib.Core.Bool.{true, false}
 use mathlib.Core.List.{List, []}
 use native.Mathlib.Omega.{arith}
@@ -8,13 +8,13 @@ use native.Mathlib.Nat.{add-sub-cancel-left}
 use lib.ListN.{length, take, drop, length-drop, List·getD-eq-default}
 use lib.Seq.{take-all}
 use lib.Dec.{eqb}
-use borrow.Author.Tests.{lt-ltb, le-ltb, le-leb, lt-leb, eq-eqb, ne-eqb}
+use borrow.Author.Tests.{le-leb, lt-leb, eq-eqb, ne-eqb}
 use Rattle.planning.specs.Connectives.{pick}
 use Rattle.planning.proofs.Guards.{pick-yes, pick-no, eq-eqb-l, ne-eqb-l, le-leb-l, lt-leb-l}
 use Rattle.task.specs.Limits.{operatorBytes, effectsAt}
 use Rattle.task.specs.Bytes.{byte, part}
-use Rattle.task.specs.Format.{operators, operatorRecord, effects}
-use Rattle.task.specs.Check.{checkOf, accepted, operatorPart}
+use Rattle.task.specs.Format.{effects}
+use Rattle.task.specs.Check.{checkOf, accepted}
 
 -- ---- reads past the end
 pub byte-out : (f : List ℕ) (at : ℕ) → length f ≤ at → 0 ≡ byte f at
@@ -52,20 +52,6 @@ pub number-is : (v w : ℕ) → v ≡ w → _≡_ {A = ℕ × ℕ} (v, 0) (w, 0)
 number-is v w e = ap (λ (x : ℕ). (x, 0)) e
 
 pub ruleset answers = (pick-yes, pick-no, same-yes, same-no, eq-eqb-l, ne-eqb-l, le-leb-l, lt-leb-l, place-is, number-is)
-
--- ---- the record that is handed out
-module _ (f : List ℕ) (o : ℕ) where
-  pub part-refused : accepted f ≡ false → [] ≡ operatorPart f o
-  unfolding operatorPart
-  part-refused r = pick-no _ _ _ _ r refl
-
-  pub part-none : accepted f ≡ true → operators f ≤ o → [] ≡ operatorPart f o
-  unfolding operatorPart
-  part-none a h = pick-yes _ _ _ _ a (pick-no _ _ _ _ (le-ltb o (operators f) h) refl)
-
-  pub part-record : accepted f ≡ true → o < operators f → operatorRecord f o ≡ operatorPart f o
-  unfolding operatorPart
-  part-record a h = pick-yes _ _ _ _ a (pick-yes _ _ _ _ (lt-ltb o (operators f) h) refl)
 
 -- ---- the answer tells too whether the file passes
 pub refuses : (f : List ℕ) (n v : ℕ) → (n, v) ≡ checkOf f → (n ≡ 0 → ⊥) → ((n, v) ≡ checkOf f) × (false ≡ accepted f)

@@ -1,7 +1,7 @@
 -- The file check: refusals 1 to 10 in order (document 01, "Refusals in order"), as a number and a value; 0 and 0 for a file that passes.
 use Prim.Native.Nat.{ℕ, _+_, _-_, _*_}
 use mathlib.Core.Bool.{Bool}
-use mathlib.Core.List.{List, []}
+use mathlib.Core.List.{List}
 use lib.ListN.{length}
 use lib.Dec.{leb, ltb, eqb}
 use Rattle.planning.specs.Connectives.{_and_, _or_, pick}
@@ -154,7 +154,3 @@ checkOf f = pick (eqb (headerFault f) 0) (checkVariables f) (headerFault f, 0)
 -- the file passes the check
 unfoldable pub accepted : List ℕ → Bool
 accepted f = eqb (checkOf f .0) 0
-
--- the record of an operator as it is handed out: nothing for a refused file, or a number without a record
-unfoldable pub operatorPart : List ℕ → ℕ → List ℕ
-operatorPart f o = pick (accepted f) (pick (ltb o (operators f)) (operatorRecord f o) []) []

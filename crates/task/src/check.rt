@@ -5,12 +5,11 @@ use crate::header::operators;
 use crate::header::terms;
 use crate::header::variables;
 use crate::limits::MOST_BITS;
-use crate::records::operator_record;
 use crate::rules::first_bad_operator;
 use crate::rules::first_bad_term;
 use crate::rules::first_bad_variable;
 ghost use mathlib.Core.Path.{_≡_};
-ghost use Rattle.task.specs.Check.{checkOf, accepted, operatorPart};
+ghost use Rattle.task.specs.Check.{checkOf, accepted};
 ghost use Rattle.task.specs.Answers.{answer, passed};
 
 // What the file check answers (specs/Answers.antt has document 01's number and value for each case).
@@ -72,17 +71,4 @@ pub fn accepted(file: &[u8]) -> bool
             place: _,
         } => false,
     }
-}
-
-// The record of operator o, as a part of the file: nothing for a refused file, or a number without a record.
-pub fn operator(file: &[u8], o: usize) -> &[u8]
-    ensures { λ r. ⌜ now r ≡ operatorPart (now (file .entry)) o ⌝ }
-{
-    if !accepted(file) {
-        return &file[..0];
-    }
-    if operators(file) <= o {
-        return &file[..0];
-    }
-    operator_record(file, o)
 }

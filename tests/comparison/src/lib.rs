@@ -67,11 +67,11 @@ fn lengths(lists: &Lists) -> Lengths {
 /// Whether the lists still hold what a refusal keeps: everything up to 12, working lists too; levels, nodes and plan after 13; else the plan.
 fn kept(number: u64, before: &Lists, after: &Lists) -> bool {
     let nodes = before.levels == after.levels && before.bit == after.bit && before.low == after.low && before.high == after.high;
-    let utility = before.utility_bit == after.utility_bit
-        && before.utility_low == after.utility_low
-        && before.utility_high == after.utility_high;
-    let working = before.heads == after.heads && before.chain == after.chain && before.memo == after.memo;
-    before.plan == after.plan && (nodes || number > 13) && (utility && working || number > 12)
+    match number {
+        1..=12 => before == after,
+        13 => nodes && before.plan == after.plan,
+        _ => before.plan == after.plan,
+    }
 }
 
 /// The lists of bits in a set, from bit k on, as words with bit k worth 2^k.

@@ -5,5 +5,5 @@ use Rattle.search.specs.declared.answer.Listing.{Listing}
 use Rattle.search.specs.declared.answer.Searched.{Searched}
 use Rattle.search.specs.declared.answer.Searched.the-variants.{Found}
 
-pub record Fits (answer : Searched) (n : ℕ) : Type 0 where
+pub record StepsFit (answer : Searched) (n : ℕ) : Type 0 where
   pub steps : (l : Listing) → answer ≡ Found l → l .steps ≤ n

@@ -3,9 +3,9 @@ use mathlib.Core.Path.{_∙_}
 use native.Mathlib.Omega.{arith}
 use borrow.Author.Needs.{needs}
 use Rattle.planning.proofs.Guards.{wrong, right}
-use Rattle.task.proofs.Laws.{part-refused, part-none, part-record}
-use Rattle.task.proofs.check.operator.Statement.{statement}
-use Rattle.task.proofs.check.operator.Tie as tie
+use Rattle.record_lookup.proofs.Laws.{part-refused, part-none, part-record}
+use Rattle.record_lookup.proofs.operator.Statement.{statement}
+use Rattle.record_lookup.proofs.operator.Tie as tie
 
 accepted-requires : tie.Need-accepted-requires
 accepted-requires c κs = search needs

@@ -1,0 +1,2 @@
+-- What the record that is handed out is.
+pub mod Laws

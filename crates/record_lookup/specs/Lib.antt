@@ -1,0 +1,2 @@
+-- The record that is handed out.
+pub mod Lookup
