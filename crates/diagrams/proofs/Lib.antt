@@ -9,7 +9,6 @@ pub mod Counting
 pub mod Empty
 pub mod Applies
 pub mod Canonical
-pub mod Ending
 pub mod Memos
 pub mod Rows
 pub mod Binary

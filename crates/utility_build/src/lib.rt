@@ -33,8 +33,8 @@ fn add_term(
 {
     let cube = task::model::term_cube(file, t);
     let weight = task::model::term_weight(file, t) as u32;
-    diagrams::widen(memo, count);
-    let stamp = diagrams::stamp(memo);
+    diagram_memo::widen(memo, count);
+    let stamp = diagram_memo::stamp(memo);
     utility_add::add(
         bit,
         low,
@@ -106,8 +106,8 @@ pub fn build(
         let s′ = table (now (bit .exit)) (now (low .exit)) (now (high .exit)) (now (heads .exit)) (now (chain .exit)) (r .count) in
         ⌜ Builds s s′ r (taskOf (now (file .entry))) ⌝ }
 {
-    diagrams::clear(heads);
-    diagrams::begin(memo);
+    diagram_memo::clear(heads);
+    diagram_memo::begin(memo);
     let r = diagrams::mk(bit, low, high, heads, chain, 0, 64, 0, 1);
     if r.full {
         return r;

@@ -175,7 +175,7 @@ fn change(
     if c.full {
         return c;
     }
-    diagrams::apply(
+    diagram_apply::apply(
         bit,
         low,
         high,
@@ -242,8 +242,8 @@ fn within(
     requires { ⌜ Store (nodes (now ubit) (now ulow) (now uhigh) ucount) × (u < ucount + 2) ⌝ }
     requires { ⌜ (length (now low) ≡ length (now bit)) × (length (now high) ≡ length (now bit)) × (length (now bit) ≤ 1048576) ⌝ }
 {
-    diagrams::clear(heads);
-    diagrams::begin(memo);
+    diagram_memo::clear(heads);
+    diagram_memo::begin(memo);
     let b = random_set(bit, low, high, heads, chain, memo, size(n), cubes, seed);
     if b.full {
         return;

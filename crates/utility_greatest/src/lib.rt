@@ -49,7 +49,7 @@ pub fn most(
     if e.known {
         return e.value + 1;
     }
-    let m = diagrams::recall(memo, stamp, a, u);
+    let m = diagram_memo::recall(memo, stamp, a, u);
     if m.known {
         return m.name;
     }
@@ -83,7 +83,7 @@ pub fn most(
         p.bh,
     );
     let r = larger(l, h);
-    diagrams::keep(memo, stamp, a, u, r);
+    diagram_memo::keep(memo, stamp, a, u, r);
     r
 }
 
@@ -109,7 +109,7 @@ pub fn greatest(
         let x = nodes (now (ubit .entry)) (now (ulow .entry)) (now (uhigh .entry)) ucount in
         ⌜ Greatest s x (now (memo .exit)) a u r ⌝ }
 {
-    let stamp = diagrams::stamp(memo);
+    let stamp = diagram_memo::stamp(memo);
     most(
         bit,
         low,

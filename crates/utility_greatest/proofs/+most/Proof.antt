@@ -14,8 +14,8 @@ use borrow.Fn.PlainCycle.{Measures, is, falls, and}
 use Rattle.utility_greatest.proofs.most.Reads as most
 use Rattle.utility_greatest.proofs.most.Kinds as most-kinds
 use Rattle.utility_greatest.proofs.+most.Lts-most as most-lts
-use Rattle.diagrams.proofs.keep.Reads as keep-reads
-use Rattle.diagrams.proofs.recall.Reads as recall-reads
+use Rattle.diagram_memo.proofs.keep.Reads as keep-reads
+use Rattle.diagram_memo.proofs.recall.Reads as recall-reads
 use Rattle.utility_greatest.proofs.larger.Reads as larger-reads
 use Rattle.utility.proofs.end.Reads as end-reads
 use Rattle.utility.proofs.part.Reads as part-reads
