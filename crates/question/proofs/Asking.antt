@@ -12,9 +12,9 @@ use Rattle.diagrams.specs.Tree.{trees}
 use Rattle.task.specs.Format.{bound}
 use Rattle.task.specs.Decode.{sizes}
 use Rattle.task.specs.Check.{checkOf, accepted}
-use Rattle.task.specs.Answers.{answer, passed}
-use Rattle.task.specs.declared.check.Checked.{Checked}
-use Rattle.task.specs.declared.check.Checked.the-variants.{Accepted, Refused as FileRefused}
+use Rattle.task_check.specs.Answers.{answer, passed}
+use Rattle.task_check.specs.declared.Checked.{Checked}
+use Rattle.task_check.specs.declared.Checked.the-variants.{Accepted, Refused as FileRefused}
 use Rattle.question.specs.Question.{stateRight, inLevel, leastFrom, askOf, questionOf}
 use Rattle.question.specs.Levelled.{heldAt}
 use Rattle.question.specs.declared.Answered.{Answered}

@@ -1,7 +1,7 @@
 // The record lookup: an operator's record as a part of a file of any kind.
-use task::check::accepted;
 use task::header::operators;
 use task::records::operator_record;
+use task_check::accepted;
 ghost use mathlib.Core.Path.{_≡_};
 ghost use Rattle.record_lookup.specs.Lookup.{operatorPart};
 

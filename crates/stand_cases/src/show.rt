@@ -1,7 +1,7 @@
 // Writes the answers, one to a line behind the case's name.
 use stand::refused;
-use task::check::Checked;
-use task::check::check;
+use task_check::Checked;
+use task_check::check;
 use walk::Walked;
 use walk::fault_number;
 use walk::walk;

@@ -1,7 +1,6 @@
 -- Laws that belong to no one function, and what an accepted file is known to be.
 pub mod Laws
-pub mod StateLaws
+pub mod Tables
 pub mod Acceptance
 pub mod Goodness
 pub mod CodingLaws
-pub mod ModelLaws

@@ -3,8 +3,5 @@ pub mod Limits
 pub mod Bytes
 pub mod Format
 pub mod Decode
-pub mod States
 pub mod Check
-pub mod Answers
 pub mod Sound
-pub mod Cubes

@@ -48,3 +48,9 @@ pub record Sound (f : List ℕ) : Type 0 where
   pub variable : (v : ℕ) → v < variables f → RightVariable f v
   pub operator : (o : ℕ) → o < operators f → RightOperator f (operatorRecord f o)
   pub term : (t : ℕ) → t < terms f → RightTerm f (termRecord f t)
+
+-- the row's used facts are facts of the file, and its states' bits fit
+pub record Fits (f row : List ℕ) (used : ℕ) : Type 0 where
+  pub few-bits : bits (sizes f) ≤ mostBits
+  pub right : RightRow f row used
+  pub few : used < 256

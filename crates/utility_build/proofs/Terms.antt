@@ -11,8 +11,8 @@ use Rattle.planning.proofs.Cubes.{care-lt, rising-more}
 use Rattle.task.specs.Format.{terms}
 use Rattle.task.specs.Decode.{sizes, termIn}
 use Rattle.task.specs.Check.{accepted}
-use Rattle.task.specs.Cubes.{Means}
-use Rattle.task.specs.declared.coding.Cube.{Cube}
+use Rattle.task_states.specs.Cubes.{Means}
+use Rattle.task_states.specs.declared.cubes.Cube.{Cube}
 use Rattle.task.proofs.Acceptance.{sound}
 use Rattle.task.proofs.Goodness.{facts-right}
 use Rattle.diagrams.specs.Store.{Table, tree}

@@ -31,8 +31,8 @@ fn add_term(
         let s′ = table (now (bit .exit)) (now (low .exit)) (now (high .exit)) (now (heads .exit)) (now (chain .exit)) (r .count) in
         ⌜ AddsTerm (now (file .entry)) s s′ (now (memo .exit)) r t ⌝ }
 {
-    let cube = task::model::term_cube(file, t);
-    let weight = task::model::term_weight(file, t) as u32;
+    let cube = task_states::model::term_cube(file, t);
+    let weight = task_states::model::term_weight(file, t) as u32;
     diagram_memo::widen(memo, count);
     let stamp = diagram_memo::stamp(memo);
     utility_add::add(

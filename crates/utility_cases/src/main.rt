@@ -411,7 +411,7 @@ fn run(
 fn case(file: &[u8], m: usize, seed: u64)
     requires { ⌜ m ≤ 8192 ⌝ }
 {
-    if task::check::accepted(file) {
+    if task_check::accepted(file) {
         let mut ubit = [0u32; LENT];
         let mut ulow = [0u32; LENT];
         let mut uhigh = [0u32; LENT];

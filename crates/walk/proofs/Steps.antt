@@ -14,7 +14,7 @@ use Rattle.planning.proofs.Guards.{pick-yes, pick-no}
 use Rattle.task.specs.Format.{variables, startValue, operators, bound, operatorRecord, preconditions, preconditionCount, cost, effects, effectCount}
 use Rattle.task.specs.Decode.{facts, operatorIn, taskOf}
 use Rattle.task.specs.Check.{checkOf, accepted}
-use Rattle.task.proofs.StateLaws.{tab-more, tab-done}
+use Rattle.task.proofs.Tables.{tab-more, tab-done}
 use Rattle.task.proofs.Goodness.{operator-count, operator-at}
 use Rattle.walk.specs.declared.Fault.{Fault}
 use Rattle.walk.specs.declared.Fault.the-variants.{Operator, Precondition, Bound}

@@ -1,7 +1,5 @@
 // The walk of a given plan, two bytes for each step, low byte first.
 use task::bytes::le16;
-use task::check::Checked;
-use task::check::check;
 use task::header::bound;
 use task::header::operators;
 use task::header::variables;
@@ -12,10 +10,12 @@ use task::records::effects;
 use task::records::operator_record;
 use task::records::precondition_count;
 use task::records::preconditions;
-use task::state::apply;
-use task::state::met;
-use task::state::start;
-use task::state::utility;
+use task_check::Checked;
+use task_check::check;
+use task_states::state::apply;
+use task_states::state::met;
+use task_states::state::start;
+use task_states::state::utility;
 ghost use mathlib.Core.Path.{_≡_};
 ghost use Prim.Native.Nat.{_≤_};
 ghost use lib.ListN.{length};

@@ -1,7 +1,7 @@
 -- Each case of the answer is reported with its number and value.
 use borrow.Author.Needs.{needs}
 use mathlib.Core.Path.{ap}
-use Rattle.task.specs.Answers.{answer}
+use Rattle.task_check.specs.Answers.{answer}
 use Rattle.supervisor.specs.Reports.{checkNumbers}
 use Rattle.supervisor.proofs.Reports.{case-is}
 use Rattle.supervisor.proofs.laurelsnap_check.Statement.{statement}

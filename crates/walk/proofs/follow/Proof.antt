@@ -9,8 +9,8 @@ use Rattle.planning.proofs.Guards.{wrong, right}
 use Rattle.planning.proofs.Scan.{EveryFrom, every-none, every-more, every-stop, every-done}
 use Rattle.task.specs.Format.{operators, bound}
 use Rattle.task.specs.Decode.{taskOf}
-use Rattle.task.specs.States.{met}
-use Rattle.task.proofs.StateLaws.{holds-every}
+use Rattle.task_states.specs.States.{met}
+use Rattle.task_states.proofs.StateLaws.{holds-every}
 use Rattle.walk.specs.Walk.{walkFrom, steps}
 use Rattle.walk.proofs.Steps.{WalkAt, walk-none, walk-17, walk-18, walk-19, walk-on, walk-end, pre-is, cost-is, state-is, stopped, finished}
 use Rattle.walk.proofs.follow.Statement.{statement}

@@ -7,7 +7,7 @@ use mathlib.Core.Path.{_≡_}
 use denote.Ref.{now}
 use lib.Seq.{length-take-le}
 use Rattle.task.specs.Check.{accepted}
-use Rattle.task.specs.Answers.{answer, passed}
+use Rattle.task_check.specs.Answers.{answer, passed}
 use Rattle.task.proofs.Acceptance.{sound}
 use Rattle.walk.proofs.Steps.{walk-refused, walk-odd, walk-even}
 use Rattle.walk.proofs.walk.Statement.{statement}

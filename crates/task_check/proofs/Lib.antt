@@ -1,0 +1,2 @@
+-- Laws of the check's answer.
+pub mod Laws

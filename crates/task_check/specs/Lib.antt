@@ -1,0 +1,2 @@
+-- The file check's answers.
+pub mod Answers

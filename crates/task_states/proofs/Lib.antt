@@ -1,0 +1,3 @@
+-- Laws of states and of cubes.
+pub mod StateLaws
+pub mod ModelLaws

@@ -1,0 +1,3 @@
+-- What the file's facts, terms and cubes are.
+pub mod States
+pub mod Cubes
