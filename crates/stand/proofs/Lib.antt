@@ -1,4 +1,2 @@
--- Laws that belong to no one function: bytes written, the stand's files, and the table of the stand cases.
+-- Laws that belong to no one function: bytes written.
 pub mod Writes
-pub mod Files
-pub mod Table

@@ -26,7 +26,7 @@ use Rattle.search.specs.declared.answer.Searched.the-variants.{Refused, Found}
 use Rattle.search.specs.Lent.{Lent, lent}
 use Rattle.search.specs.Search.{anyWrong, madeOf, setsOf, searchOf}
 use Rattle.search.proofs.Table as searches
-use Rattle.stand.proofs.Files.{Holds, files}
+use Rattle.stand_table.proofs.Files.{Holds, files}
 
 -- v levels, n node entries, e utility entries and p steps are lent, and working lists without an entry
 abbrev pub lists : ℕ → ℕ → ℕ → ℕ → Lent

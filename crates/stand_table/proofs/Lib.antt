@@ -1,0 +1,3 @@
+-- The stand's files, and the table of the stand cases.
+pub mod Files
+pub mod Table

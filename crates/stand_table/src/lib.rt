@@ -1,0 +1,1 @@
+// The stand cases of document 01 as one proved table. Theorems alone, no code.
