@@ -5,7 +5,6 @@ use search::answer::Listing;
 use search::answer::Searched;
 use search::search::search;
 use task::records::cost;
-ghost use mathlib.Core.Path.{_≡_};
 ghost use Prim.Native.Nat.{_≤_};
 ghost use lib.ListN.{length};
 ghost use Rattle.task.specs.Bytes.{Reads};

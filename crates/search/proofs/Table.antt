@@ -1,9 +1,8 @@
 -- The starred stand cases of the search: figures, and the refusals 14 and 15 at lists one too short. Assumes nothing.
-use Prim.Native.Nat.{ℕ, zero, suc}
+use Prim.Native.Nat.{ℕ}
 use mathlib.Core.Path.{_≡_, refl}
-use mathlib.Core.List.{List, [], _∷_}
-use lib.ListN.{length, replicate}
-use lib.Dec.{ltb}
+use mathlib.Core.List.{[]}
+use lib.ListN.{replicate}
 use Rattle.planning.specs.Connectives.{pick}
 use Rattle.planning.specs.Model.{ceiling}
 use Rattle.planning.specs.Cases.{fact, P, Q}

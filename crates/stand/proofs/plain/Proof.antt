@@ -1,5 +1,4 @@
 -- Written to zeros, byte by byte, the parts are the file.
-use mathlib.Core.Path.{_∙_}
 use Rattle.stand.specs.Bytes.{overlay, putSizes}
 use borrow.Author.Needs.{needs}
 use Rattle.stand.proofs.plain.Statement.{statement}
