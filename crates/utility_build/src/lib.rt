@@ -106,7 +106,7 @@ pub fn build(
         let s′ = table (now (bit .exit)) (now (low .exit)) (now (high .exit)) (now (heads .exit)) (now (chain .exit)) (r .count) in
         ⌜ Builds s s′ r (taskOf (now (file .entry))) ⌝ }
 {
-    diagram_memo::clear(heads);
+    diagrams::clear(heads);
     diagram_memo::begin(memo);
     let r = diagrams::mk(bit, low, high, heads, chain, 0, 64, 0, 1);
     if r.full {

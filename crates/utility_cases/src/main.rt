@@ -242,7 +242,7 @@ fn within(
     requires { ⌜ Store (nodes (now ubit) (now ulow) (now uhigh) ucount) × (u < ucount + 2) ⌝ }
     requires { ⌜ (length (now low) ≡ length (now bit)) × (length (now high) ≡ length (now bit)) × (length (now bit) ≤ 1048576) ⌝ }
 {
-    diagram_memo::clear(heads);
+    diagrams::clear(heads);
     diagram_memo::begin(memo);
     let b = random_set(bit, low, high, heads, chain, memo, size(n), cubes, seed);
     if b.full {
