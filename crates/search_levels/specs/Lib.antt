@@ -1,2 +1,1 @@
-pub mod HeldSets
 pub mod Levels

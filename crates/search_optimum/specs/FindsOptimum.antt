@@ -10,7 +10,7 @@ use Rattle.search_theory.specs.Bits.{bitTask}
 use Rattle.search_theory.specs.Levels.{level}
 use Rattle.search_theory.specs.Optimum.{bestUtility, bestCost}
 use Rattle.utility.specs.Stages.{utilityTree}
-use Rattle.search_levels.specs.HeldSets.{Names}
+use Rattle.search_theory.specs.HeldSets.{Names}
 use Rattle.search_optimum.specs.declared.Optimum.{Optimum}
 
 -- the lists name the levels of the task, and its utility diagram

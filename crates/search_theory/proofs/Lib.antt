@@ -13,3 +13,4 @@ pub mod Task
 pub mod Demands
 pub mod Counted
 pub mod Made
+pub mod HeldSets

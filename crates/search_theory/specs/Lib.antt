@@ -7,3 +7,4 @@ pub mod Optimum
 pub mod Wanted
 pub mod Made
 pub mod Plan
+pub mod HeldSets

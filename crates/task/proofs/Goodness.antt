@@ -1,6 +1,6 @@
 -- The task of an accepted file is a good one.
 use Prim.Native.Nat.{ℕ, zero, suc, _+_, _≤_, _<_}
-use mathlib.Core.Path.{_≡_, ap, _∙_}
+use mathlib.Core.Path.{_≡_, refl, ap, _∙_}
 use mathlib.Core.Bool.{true}
 use mathlib.Core.List.{List}
 use native.Mathlib.Omega.{arith}
@@ -10,7 +10,7 @@ use Rattle.planning.specs.Model.{Operator, Term, operatorAt}
 use Rattle.planning.specs.Scan.{tab}
 use Rattle.planning.specs.Coding.{Valid, UsedFact, Facts}
 use Rattle.planning.specs.Good.{Terms, Good}
-use Rattle.task.specs.Format.{variables, operators, terms, size, startValue, factVariable}
+use Rattle.task.specs.Format.{variables, operators, terms, bound, size, startValue, factVariable}
 use Rattle.task.specs.Decode.{factAt, facts, operatorIn, termIn, sizes, taskOf}
 use Rattle.task.specs.Check.{accepted}
 use Rattle.task.specs.Sound.{RightRow}
@@ -42,7 +42,7 @@ terms-tab ds g zero i right = tt
 terms-tab ds g (suc n) i right =
     (right i (omega arith) (omega arith), terms-tab ds g n (suc i) (λ k l u. right k (omega arith) (omega arith)))
 
--- ---- a file's variables and operators, in its task
+-- ---- a file's variables, bound and operators, in its task
 module _ (f : List ℕ) where
   pub length-sizes : length (sizes f) ≡ variables f
   unfolding sizes
@@ -51,6 +51,10 @@ module _ (f : List ℕ) where
   pub size-at : (v : ℕ) → v < variables f → getD (sizes f) v 0 ≡ size f v
   unfolding sizes
   size-at v h = getD-tab (size f) (variables f) 0 v h ∙ ap (size f) (zero-add v)
+
+  pub bound-is : bound f ≡ taskOf f .bound
+  unfolding taskOf
+  bound-is = refl
 
   pub operator-count : length (taskOf f .operators) ≡ operators f
   unfolding taskOf

@@ -13,7 +13,7 @@ use Rattle.task.specs.Decode.{taskOf}
 use Rattle.task.proofs.Goodness.{good}
 use Rattle.utility.specs.Reading.{nodes}
 use Rattle.utility_greatest.specs.Greatest.{MostOf}
-use Rattle.search_levels.proofs.Starts.{bound-is}
+use Rattle.task.proofs.Goodness.{bound-is}
 use Rattle.search_optimum.proofs.Greatest.{HighestTo, file-few, highest-first, highest-new, highest-stays, highest-last}
 
 abbrev Inv-loop : tie.InvT-loop
