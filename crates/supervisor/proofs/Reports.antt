@@ -12,8 +12,8 @@ use Rattle.supervisor.specs.declared.Totals.{Totals}
 pub case-is : {A B : Type 0} (n : A → B) (w v W : A) (x : B) → w ≡ v → w ≡ W → x ≡ n v → x ≡ n W
 case-is n w v W x e a r = r ∙ ap n (sym e ∙ a)
 
-pub search-is : (w v : Searched) (f : List ℕ) (before after : Lent) (x : Totals) → w ≡ v → Searches f before after w → x ≡ totalsOf v → Reports f before after x
-search-is w v f before after x e s r = record {
-  answers = case-is totalsOf w v _ x e (s .answers) r;
+pub search-is : (w : Searched) (f : List ℕ) (before after : Lent) (x : Totals) → Searches f before after w → x ≡ totalsOf w → Reports f before after x
+search-is w f before after x s r = record {
+  answers = r ∙ ap totalsOf (s .answers);
   leaves = subst (λ (a : Searched). Leaves (taskOf f) a before after) (s .answers) (s .leaves);
 }

@@ -15,7 +15,7 @@ ghost use Rattle.walk.specs.Answers.{numbers as walkNumbers};
 ghost use Rattle.search.specs.Lent.{lent};
 ghost use Rattle.question.specs.Question.{questionOf};
 ghost use Rattle.question.specs.Answers.{numbers as questionNumbers};
-ghost use Rattle.supervisor.specs.Reports.{reported, checkNumbers, Reports};
+ghost use Rattle.supervisor.specs.Reports.{reported, checkNumbers, totalsOf, Reports};
 
 // An answer as C gets it: document 01's number, and two values.
 #[repr(C)]
@@ -77,43 +77,11 @@ pub struct Totals {
     pub steps: u64,
 }
 
-// The search for the best plan.
-#[no_mangle]
-pub extern "C" fn laurelsnap_search(
-    file: &[u8],
-    levels: &mut [u32],
-    bit: &mut [u32],
-    low: &mut [u32],
-    high: &mut [u32],
-    ubit: &mut [u32],
-    ulow: &mut [u32],
-    uhigh: &mut [u32],
-    heads: &mut [u32],
-    chain: &mut [u32],
-    memo: &mut [u32],
-    plan: &mut [u16],
-) -> Totals
-    ensures { λ r.
-        let before = lent (now (levels .entry)) (now (bit .entry)) (now (low .entry)) (now (high .entry)) (now (ubit .entry)) (now (ulow .entry)) (now (uhigh .entry))
-        (now (heads .entry)) (now (chain .entry)) (now (memo .entry)) (now (plan .entry)) in
-        let after = lent (now (levels .exit)) (now (bit .exit)) (now (low .exit)) (now (high .exit)) (now (ubit .exit)) (now (ulow .exit)) (now (uhigh .exit))
-        (now (heads .exit)) (now (chain .exit)) (now (memo .exit)) (now (plan .exit)) in
-        ⌜ Reports (now (file .entry)) before after r ⌝ }
+// The totals of a search's answer.
+fn totals_of(answer: Searched) -> Totals
+    ensures { λ r. ⌜ r ≡ totalsOf answer ⌝ }
 {
-    match search(
-        file,
-        levels,
-        bit,
-        low,
-        high,
-        ubit,
-        ulow,
-        uhigh,
-        heads,
-        chain,
-        memo,
-        plan,
-    ) {
+    match answer {
         Searched::Refused { number, place } => Totals {
             number: number as u64,
             value: place as u64,
@@ -137,6 +105,45 @@ pub extern "C" fn laurelsnap_search(
             steps: found.steps as u64,
         },
     }
+}
+
+// The search for the best plan.
+#[no_mangle]
+pub extern "C" fn laurelsnap_search(
+    file: &[u8],
+    levels: &mut [u32],
+    bit: &mut [u32],
+    low: &mut [u32],
+    high: &mut [u32],
+    ubit: &mut [u32],
+    ulow: &mut [u32],
+    uhigh: &mut [u32],
+    heads: &mut [u32],
+    chain: &mut [u32],
+    memo: &mut [u32],
+    plan: &mut [u16],
+) -> Totals
+    ensures { λ r.
+        let before = lent (now (levels .entry)) (now (bit .entry)) (now (low .entry)) (now (high .entry)) (now (ubit .entry)) (now (ulow .entry)) (now (uhigh .entry))
+        (now (heads .entry)) (now (chain .entry)) (now (memo .entry)) (now (plan .entry)) in
+        let after = lent (now (levels .exit)) (now (bit .exit)) (now (low .exit)) (now (high .exit)) (now (ubit .exit)) (now (ulow .exit)) (now (uhigh .exit))
+        (now (heads .exit)) (now (chain .exit)) (now (memo .exit)) (now (plan .exit)) in
+        ⌜ Reports (now (file .entry)) before after r ⌝ }
+{
+    totals_of(search(
+        file,
+        levels,
+        bit,
+        low,
+        high,
+        ubit,
+        ulow,
+        uhigh,
+        heads,
+        chain,
+        memo,
+        plan,
+    ))
 }
 
 // The question about one state: on success the least cost and 1, or 0 and 0 where the state is not reached.
