@@ -3,5 +3,5 @@ pub mod Lent
 pub mod Permitted
 pub mod Answers
 pub mod Search
-pub mod WritesPlan
+pub mod PlanAnswer
 pub mod Meaning

@@ -1,3 +1,4 @@
--- Laws of one step of plan recovery, and of the walk through the wanted sets.
-pub mod Reading
+-- Laws that belong to no one function.
 pub mod Walking
+pub mod Short
+pub mod Writing

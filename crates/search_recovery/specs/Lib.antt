@@ -1,2 +1,1 @@
-pub mod Wants
-pub mod Steps
+pub mod Recovered
