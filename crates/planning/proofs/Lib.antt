@@ -19,3 +19,4 @@ pub mod Theorems
 pub mod Cases
 pub mod Guards
 pub mod Scan
+pub mod Tables

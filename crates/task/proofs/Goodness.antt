@@ -14,7 +14,7 @@ use Rattle.task.specs.Format.{variables, operators, terms, bound, size, 
 use Rattle.task.specs.Decode.{factAt, facts, operatorIn, termIn, sizes, taskOf}
 use Rattle.task.specs.Check.{accepted}
 use Rattle.task.specs.Sound.{RightRow}
-use Rattle.task.proofs.Tables.{length-tab}
+use Rattle.planning.proofs.Tables.{length-tab}
 use Rattle.task.proofs.Acceptance.{sound}
 
 -- ---- what stands at a number in a row of values

@@ -1,17 +1,13 @@
 // The file check: refusals 1 to 10, in order.
-pub mod facts;
-pub mod header;
-pub mod rules;
-
-use crate::header::header_fault;
-use crate::rules::first_bad_operator;
-use crate::rules::first_bad_term;
-use crate::rules::first_bad_variable;
 use task::coding::bits;
 use task::header::operators;
 use task::header::terms;
 use task::header::variables;
 use task::limits::MOST_BITS;
+use task_header_check::header_fault;
+use task_record_check::first_bad_operator;
+use task_record_check::first_bad_term;
+use task_record_check::first_bad_variable;
 ghost use mathlib.Core.Path.{_≡_};
 ghost use Rattle.task.specs.Check.{checkOf, accepted};
 ghost use Rattle.task_check.specs.Answers.{answer, passed};

@@ -13,7 +13,7 @@ use Rattle.planning.specs.Model.{holds, apply, stateUtility}
 use Rattle.planning.specs.Scan.{every, tab}
 use Rattle.task.specs.Decode.{factAt, facts, termIn}
 use Rattle.task_states.specs.States.{met, gain}
-use Rattle.task.proofs.Tables.{tab-more, tab-done, tab-snoc}
+use Rattle.planning.proofs.Tables.{tab-more, tab-done, tab-snoc}
 
 -- ---- a row of facts holds where each is met
 holds-from : (s fs : List ℕ) (n i : ℕ) → every (met s fs) n i ≡ holds s (tab (factAt fs) n i)

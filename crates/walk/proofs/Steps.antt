@@ -11,10 +11,10 @@ use borrow.Author.Tests.{eq-eqb, ne-eqb, lt-ltb, le-ltb, le-leb, lt-leb}
 use Rattle.planning.specs.Scan.{tab}
 use Rattle.planning.specs.Model.{Fact, holds, apply, stateUtility, operatorAt}
 use Rattle.planning.proofs.Guards.{pick-yes, pick-no}
+use Rattle.planning.proofs.Tables.{tab-more, tab-done}
 use Rattle.task.specs.Format.{variables, startValue, operators, bound, operatorRecord, preconditions, preconditionCount, cost, effects, effectCount}
 use Rattle.task.specs.Decode.{facts, operatorIn, taskOf}
 use Rattle.task.specs.Check.{checkOf, accepted}
-use Rattle.task.proofs.Tables.{tab-more, tab-done}
 use Rattle.task.proofs.Goodness.{operator-count, operator-at}
 use Rattle.walk.specs.declared.Fault.{Fault}
 use Rattle.walk.specs.declared.Fault.the-variants.{Operator, Precondition, Bound}

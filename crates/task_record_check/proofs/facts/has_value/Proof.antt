@@ -1,0 +1,21 @@
+use borrow.Author.Needs.{needs}
+use Rattle.task.specs.Check.{hasValue}
+use Rattle.task_record_check.proofs.facts.has_value.Statement.{statement}
+use Rattle.task_record_check.proofs.facts.has_value.Tie as tie
+
+fact-value-requires : tie.Need-fact-value-requires
+fact-value-requires c κs = search needs
+
+fact-variable-requires : tie.Need-fact-variable-requires
+fact-variable-requires c κs = search needs
+
+size-requires : tie.Need-size-requires
+size-requires c κs = search needs
+
+returns : tie.Need-returns
+unfolding hasValue
+returns c = cc
+
+pub has-value-spec : {M : Type 1} → statement M
+has-value-spec =
+    tie.close (tie.spec fact-value-requires fact-variable-requires size-requires returns)

@@ -1,0 +1,18 @@
+use borrow.Author.Needs.{needs}
+use Rattle.task.specs.Check.{operatorRight}
+use Rattle.task_record_check.proofs.operator_right.Statement.{statement}
+use Rattle.task_record_check.proofs.operator_right.Tie as tie
+
+operator-record-requires : tie.Need-operator-record-requires
+operator-record-requires c κs = search needs
+
+operator-record-right-requires : tie.Need-operator-record-right-requires
+operator-record-right-requires c κs = search needs
+
+returns : tie.Need-returns
+unfolding operatorRight
+returns c = cc
+
+pub operator-right-spec : {M : Type 1} → statement M
+operator-right-spec =
+    tie.close (tie.spec operator-record-requires operator-record-right-requires returns)
