@@ -2,7 +2,6 @@
 pub mod Trees
 pub mod Places
 pub mod Entries
-pub mod Chains
 pub mod Making
 pub mod Steps
 pub mod Counting

@@ -108,7 +108,7 @@ pub fn build(
 {
     diagrams::clear(heads);
     diagram_memo::begin(memo);
-    let r = diagrams::mk(bit, low, high, heads, chain, 0, 64, 0, 1);
+    let r = diagram_table::mk(bit, low, high, heads, chain, 0, 64, 0, 1);
     if r.full {
         return r;
     }

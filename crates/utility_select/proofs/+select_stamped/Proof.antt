@@ -18,7 +18,7 @@ use Rattle.utility_select.proofs.select_stamped.Kinds as select-stamped
 use Rattle.utility_select.proofs.+select_stamped.Lts-select_stamped as select-stamped-lts
 use Rattle.diagrams.proofs.done.Reads as done-reads
 use Rattle.diagram_memo.proofs.keep.Reads as keep-reads
-use Rattle.diagrams.proofs.mk.Reads as mk-reads
+use Rattle.diagram_table.proofs.mk.Reads as mk-reads
 use Rattle.diagram_memo.proofs.recall.Reads as recall-reads
 use Rattle.utility.proofs.end.Reads as end-reads
 use Rattle.utility.proofs.part.Reads as part-reads
