@@ -1,4 +1,4 @@
--- `lent::child_right` meets its contract.
+-- `lent_lists::child_right` meets its contract.
 use borrow.Author.Needs.{needs}
 use Rattle.planning.proofs.Guards.{tests}
 use Rattle.lent_lists.specs.Lists.{childRight}

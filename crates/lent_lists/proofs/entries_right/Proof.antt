@@ -1,4 +1,4 @@
--- `lent::entries_right` meets its contract. The loop's invariant: what is left of the scan, from k on, decides.
+-- `lent_lists::entries_right` meets its contract. The loop's invariant: what is left of the scan, from k on, decides.
 use Prim.Native.Nat.{_-_}
 use native.Mathlib.Omega.{arith}
 use Rattle.planning.proofs.Guards.{wrong, right}

@@ -1,4 +1,4 @@
--- `lent::level_right` meets its contract.
+-- `lent_lists::level_right` meets its contract.
 use borrow.Author.Needs.{needs}
 use Rattle.lent_lists.specs.Lists.{levelRight}
 use Rattle.lent_lists.proofs.level_right.Statement.{statement}

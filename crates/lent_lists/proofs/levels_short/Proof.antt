@@ -1,4 +1,4 @@
--- `lent::levels_short` meets its contract.
+-- `lent_lists::levels_short` meets its contract.
 use borrow.Author.Needs.{needs}
 use Rattle.planning.proofs.Guards.{tests}
 use Rattle.lent_lists.specs.Lists.{levelsShort}

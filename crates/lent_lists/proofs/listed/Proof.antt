@@ -1,4 +1,4 @@
--- `lent::listed` meets its contract.
+-- `lent_lists::listed` meets its contract.
 use mathlib.Core.Path.{refl}
 use borrow.Author.Tests.{le-leb, lt-leb}
 use Rattle.planning.proofs.Guards.{wrong, right, and-go, and-stop}

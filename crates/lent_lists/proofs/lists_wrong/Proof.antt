@@ -1,4 +1,4 @@
--- `lent::lists_wrong` meets its contract.
+-- `lent_lists::lists_wrong` meets its contract.
 use Rattle.planning.proofs.Guards.{tests}
 use Rattle.lent_lists.specs.Lists.{listsWrong}
 use Rattle.lent_lists.proofs.lists_wrong.Statement.{statement}

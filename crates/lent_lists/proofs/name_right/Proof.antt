@@ -1,4 +1,4 @@
--- `lent::name_right` meets its contract.
+-- `lent_lists::name_right` meets its contract.
 use Rattle.planning.proofs.Guards.{tests}
 use Rattle.lent_lists.specs.Lists.{nameRight}
 use Rattle.lent_lists.proofs.name_right.Statement.{statement}

@@ -1,4 +1,4 @@
--- `lent::names_right` meets its contract. The loop's invariant: what is left of the scan, from g on, decides.
+-- `lent_lists::names_right` meets its contract. The loop's invariant: what is left of the scan, from g on, decides.
 use Prim.Native.Nat.{_+_, _-_}
 use mathlib.Core.Path.{_≡_, refl}
 use native.Mathlib.Omega.{arith}

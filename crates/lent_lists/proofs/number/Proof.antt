@@ -1,4 +1,4 @@
--- `lent::number` meets its contract.
+-- `lent_lists::number` meets its contract.
 use mathlib.Core.Path.{sym}
 use native.Mathlib.Omega.{arith}
 use lib.ListN.{List·getD-eq-default}

@@ -1,5 +1,6 @@
 use borrow.Author.Needs.{needs}
-use Rattle.task.specs.Check.{operatorRight}
+use mathlib.Core.Path.{ap, _∙_}
+use Rattle.task.specs.Check.{operatorRecordRight, operatorRight}
 use Rattle.task_record_check.proofs.operator_right.Statement.{statement}
 use Rattle.task_record_check.proofs.operator_right.Tie as tie
 
@@ -11,7 +12,7 @@ operator-record-right-requires c κs = search needs
 
 returns : tie.Need-returns
 unfolding operatorRight
-returns c = cc
+returns c = c .operator-record-right .ensures ∙ ap (operatorRecordRight _) (c .before .operator-record .ensures)
 
 pub operator-right-spec : {M : Type 1} → statement M
 operator-right-spec =

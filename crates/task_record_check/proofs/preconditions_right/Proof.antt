@@ -1,5 +1,9 @@
 use borrow.Author.Needs.{needs}
-use Rattle.task.specs.Check.{preconditionsRight}
+use Prim.Native.Nat.{ℕ}
+use mathlib.Core.Path.{ap₂, _∙_}
+use mathlib.Core.List.{List}
+use denote.Ref.{now}
+use Rattle.task.specs.Check.{factsRight, preconditionsRight}
 use Rattle.task_record_check.proofs.preconditions_right.Statement.{statement}
 use Rattle.task_record_check.proofs.preconditions_right.Tie as tie
 
@@ -14,7 +18,9 @@ facts-right-requires c κs = search needs
 
 returns : tie.Need-returns
 unfolding preconditionsRight
-returns c = cc
+returns c =
+    c .facts-right .ensures
+    ∙ ap₂ (λ (row : List ℕ) (n : ℕ). factsRight (now (c .before .before .before .before .before .args .file)) row n 8) (c .before .before .preconditions .ensures) (c .before .precondition-count .ensures .is)
 
 pub preconditions-right-spec : {M : Type 1} → statement M
 preconditions-right-spec =

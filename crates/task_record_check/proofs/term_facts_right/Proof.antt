@@ -1,5 +1,9 @@
 use borrow.Author.Needs.{needs}
-use Rattle.task.specs.Check.{termFactsRight}
+use Prim.Native.Nat.{ℕ}
+use mathlib.Core.Path.{ap₂, _∙_}
+use mathlib.Core.List.{List}
+use denote.Ref.{now}
+use Rattle.task.specs.Check.{factsRight, termFactsRight}
 use Rattle.task_record_check.proofs.term_facts_right.Statement.{statement}
 use Rattle.task_record_check.proofs.term_facts_right.Tie as tie
 
@@ -14,7 +18,9 @@ facts-right-requires c κs = search needs
 
 returns : tie.Need-returns
 unfolding termFactsRight
-returns c = cc
+returns c =
+    c .facts-right .ensures
+    ∙ ap₂ (λ (row : List ℕ) (n : ℕ). factsRight (now (c .before .before .before .before .before .args .file)) row n 4) (c .before .before .term-facts .ensures) (c .before .term-count .ensures .is)
 
 pub term-facts-right-spec : {M : Type 1} → statement M
 term-facts-right-spec =
