@@ -1,6 +1,6 @@
 -- Each case of the answer has its number and figures.
 use borrow.Author.Needs.{needs}
-use mathlib.Core.Path.{refl, sym, ap}
+use mathlib.Core.Path.{sym, ap}
 use Rattle.supervisor.specs.Reports.{totalsOf}
 use Rattle.supervisor.proofs.totals_of.Statement.{statement}
 use Rattle.supervisor.proofs.totals_of.Tie as tie
