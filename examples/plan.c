@@ -61,6 +61,8 @@ int main(int argc, char **argv)
     }
     printf("utility %llu of %llu\n", (unsigned long long)found.utility, (unsigned long long)found.ceiling);
     printf("cost %llu of %llu\n", (unsigned long long)found.cost, (unsigned long long)found.bound);
+    printf("time %llu %llu %llu\n", (unsigned long long)found.minutes, (unsigned long long)found.units,
+        (unsigned long long)found.unused);
     printf("nodes %llu %llu\n", (unsigned long long)found.nodes, (unsigned long long)found.entries);
     printf("steps %llu\n", (unsigned long long)found.steps);
     for (unsigned k = 0, spent = 0; k < found.steps; k++) {

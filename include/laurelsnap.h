@@ -88,14 +88,17 @@ static inline uint64_t laurelsnap_step(struct laurelsnap_answer answer) { return
 static inline uint64_t laurelsnap_cost(struct laurelsnap_answer answer) { return answer.first; }
 static inline uint64_t laurelsnap_utility(struct laurelsnap_answer answer) { return answer.second; }
 
-/* What a search reports: number and value as above, then the listing's figures, all 0 after a refusal. */
+/* What a search reports: number and value as above, then the listing's figures in the listing's order, all 0 after a refusal. */
 struct laurelsnap_found {
     uint64_t number;
     uint64_t value;
     uint64_t utility;
     uint64_t ceiling;
-    uint64_t cost;
-    uint64_t bound;
+    uint64_t cost;    /* in units of ten seconds */
+    uint64_t bound;   /* in units */
+    uint64_t minutes; /* the cost in whole minutes, */
+    uint64_t units;   /* and the units left over, 0 to 5: 6 * minutes + units == cost */
+    uint64_t unused;  /* units: unused + cost == bound */
     uint64_t nodes;
     uint64_t entries;
     uint64_t steps;

@@ -18,6 +18,7 @@ COST_LEAST, COST_MOST = 1, 4095
 WEIGHT_MOST = 65535
 OPERATOR_FACTS, TERM_FACTS = 8, 4
 BITS_MOST = 48
+MINUTE = 6  # units of ten seconds
 
 NAME = re.compile(r"[A-Za-z0-9_][A-Za-z0-9_.+/-]*$")
 
@@ -399,18 +400,60 @@ def decode(file):
 # ---- listings
 
 
-def explain(task, listing):
-    """A listing of the planner with each step's operator named behind it; other lines stay."""
-    out, steps = [], 0
-    for line in listing.splitlines():
-        words = line.split()
-        numbers = all(re.fullmatch("[0-9]+", word) for word in words)
-        if len(words) == 4 and numbers and steps:
-            steps -= 1
-            if int(words[1]) >= len(task.operators):
-                raise Fault(f"the listing names operator {words[1]}, which the task does not have")
-            line += "  " + task.operators[int(words[1])].name
-        elif len(words) == 2 and words[0] == "steps":
-            steps = int(words[1])
-        out.append(line)
-    return "\n".join(out) + "\n"
+class Listing:
+    """A listing of the planner, read line by line; the first line that is wrong ends it."""
+
+    def __init__(self, text):
+        self.lines = text.split("\n")
+        self.number = 0  # of the line read last, from 1
+
+    def fault(self, cause):
+        return TextErrors([(self.number, cause)])
+
+    def read(self, form):
+        """The numbers in the next line, which has this form with a number for each N."""
+        if self.number == len(self.lines) - 1:
+            raise TextErrors([(0, f"the listing ends before '{form}'")])
+        line = self.lines[self.number]
+        self.number += 1
+        match = re.fullmatch(form.replace("N", "(0|[1-9][0-9]{0,9})"), line)
+        if not match:
+            raise self.fault(f"'{line}' in place of '{form}'")
+        return [int(number) for number in match.groups()]
+
+    def end(self):
+        if self.lines[self.number:] != [""]:
+            self.number += 1
+            raise self.fault("the listing goes on after its last step")
+
+
+def explain(task, text):
+    """A whole listing for the task, with each step's operator named behind it. Any other text raises TextErrors."""
+    if text.startswith("refused "):
+        raise TextErrors([(1, "a refusal, no listing; include/laurelsnap.h tells the cause of its number")])
+    listing = Listing(text)
+    utility, ceiling = listing.read("utility N of N")
+    if utility > ceiling:
+        raise listing.fault("the utility is above the ceiling")
+    cost, bound = listing.read("cost N of N")
+    if bound != task.bound:
+        raise listing.fault(f"the bound is {bound}, the task's is {task.bound}")
+    if cost > bound:
+        raise listing.fault("the cost is above the bound")
+    listing.read(f"time {cost // MINUTE} {cost % MINUTE} {bound - cost}")
+    listing.read("nodes N N")
+    steps, = listing.read("steps N")
+    names, spent = [""] * listing.number, 0
+    for step in range(steps):
+        number, own, so_far = listing.read(f"{step} N N N")
+        if number >= len(task.operators):
+            raise listing.fault(f"the task has no operator {number}")
+        operator = task.operators[number]
+        spent += operator.cost
+        if (own, so_far) != (operator.cost, spent):
+            raise listing.fault(f"{operator.name} costs {operator.cost}, {spent} so far, not {own} and {so_far}")
+        names.append("  " + operator.name)
+    if spent != cost:
+        raise listing.fault(f"the steps cost {spent}, not {cost}")
+    listing.end()
+    return "".join(line + name + "\n" for line, name in zip(listing.lines, names))

@@ -285,15 +285,23 @@ static void stand_cases(void)
     same("5,000 steps", laurelsnap_walk(file, length, zeros, sizeof zeros), 19, 4095, 0);
 }
 
-/* ---- searches: P with the bound 1 in node lists and utility lists of these lengths */
+/* ---- searches */
 
+/* The search over the file, in node lists and utility lists of these lengths; the level list is just long enough, the plan list has one step. */
+static struct laurelsnap_found found_in(size_t nodes, size_t entries)
+{
+    static uint32_t lists[6][1048577], levels[4096], working[3][256];
+    static uint16_t plan[1];
+    return laurelsnap_search(file, length, levels, le16(file + 10) + 1, lists[0], nodes, lists[1], nodes, lists[2], nodes, lists[3], entries,
+        lists[4], entries, lists[5], entries, working[0], 256, working[1], 256, working[2], 256, plan, 1);
+}
+
+/* P with the bound 1: the number and the steps, and the time 0 1 0, or nothing but zeros after a refusal. */
 static void searches(const char *what, size_t nodes, size_t entries, uint64_t number, uint64_t steps)
 {
-    static uint32_t lists[6][1048577], levels[2], working[3][256];
-    static uint16_t plan[1];
-    struct laurelsnap_found found = laurelsnap_search(file, length, levels, 2, lists[0], nodes, lists[1], nodes, lists[2], nodes, lists[3],
-        entries, lists[4], entries, lists[5], entries, working[0], 256, working[1], 256, working[2], 256, plan, 1);
+    struct laurelsnap_found found = found_in(nodes, entries);
     same(what, answer(found.number, found.value, found.steps), number, 0, steps);
+    same(what, answer(found.minutes, found.units, found.unused), 0, number == 0, 0);
 }
 
 static void long_lists(void)
@@ -305,6 +313,27 @@ static void long_lists(void)
     searches("1,048,576 entries", 1048576, 1048576, 0, 1);
     searches("1,048,577 node entries", 1048577, 6, 12, 0);
     searches("1,048,577 utility entries", 8, 1048577, 12, 0);
+}
+
+/* One operator of this cost that is worth 1: minutes, units left over and units unused of the best plan. */
+static void takes(const char *what, size_t cost, size_t bound, uint64_t minutes, uint64_t units, uint64_t unused)
+{
+    make(1, 1, 1, bound);
+    put16(operator_at(0), cost);
+    eff(0, 0, 1);
+    put16(term_at(0), 1);
+    asks(0, 0, 1);
+    struct laurelsnap_found found = found_in(16, 8);
+    same(what, answer(found.minutes, found.units, found.unused), minutes, units, unused);
+}
+
+static void times(void)
+{
+    takes("cost 5 of 5", 5, 5, 0, 5, 0);
+    takes("cost 6 of 6", 6, 6, 1, 0, 0);
+    takes("cost 14 of 20", 14, 20, 2, 2, 6);
+    takes("cost 4,095 of 4,095", 4095, 4095, 682, 3, 0);
+    takes("an operator that costs more than the bound", 4095, 4094, 0, 0, 4094);
 }
 
 /* ---- made-up files and plans */
@@ -395,6 +424,7 @@ int main(void)
 {
     stand_cases();
     long_lists();
+    times();
     made_up();
     printf("the supervisor's calls from C: %lu answers compared, %lu differ\n", compared, faults);
     return faults == 0 ? EXIT_SUCCESS : EXIT_FAILURE;

@@ -23,6 +23,16 @@ term first weight 2: p=1
 term both weight 1: q=1 p=1
 """
 
+# and what osp-list prints for it
+LISTING = """\
+utility 2 of 3
+cost 1 of 1
+time 0 1 0
+nodes 8 6
+steps 1
+0 1 1 1
+"""
+
 
 def random_task(dice):
     """A valid task of random size."""
@@ -229,10 +239,52 @@ class Command(unittest.TestCase):
         self.assertEqual(self.bpt("walk").returncode, 2)
 
     def test_explain(self):
-        listing = "utility 2 of 3\ncost 1 of 1\nnodes 8 6\nsteps 1\n0 1 1 1\n"
-        shown = self.bpt("explain", "p.task", stdin=listing)
-        self.assertEqual(shown.stdout, listing[:-1] + "  b\n")
-        self.assertEqual(self.bpt("explain", "p.task", stdin="steps 1\n0 7 1 1\n").returncode, 1)
+        shown = self.bpt("explain", "p.task", stdin=LISTING)
+        self.assertEqual((shown.returncode, shown.stdout), (0, LISTING[:-1] + "  b\n"))
+        (self.folder / "p.listing").write_text(LISTING)
+        self.assertEqual(self.bpt("explain", "p.task", "p.listing").stdout, shown.stdout)
+        for listing, message in [
+            ("", "standard input: the listing ends before 'utility N of N'\n"),
+            (LISTING.replace("time 0 1 0\n", ""), "standard input:3: 'nodes 8 6' in place of 'time 0 1 0'\n"),
+        ]:
+            refused = self.bpt("explain", "p.task", stdin=listing)
+            self.assertEqual((refused.returncode, refused.stdout, refused.stderr), (1, "", message))
+
+
+class Listings(unittest.TestCase):
+    def wrong(self, listing, line, cause):
+        """The first fault of the listing is at this line (0: the whole), and its cause begins so."""
+        with self.subTest(listing), self.assertRaises(bpt.TextErrors) as caught:
+            bpt.explain(bpt.parse(P), listing)
+        (number, told), = caught.exception.faults
+        self.assertEqual((number, told[:len(cause)]), (line, cause))
+
+    def test_whole_listings_only(self):
+        lines = LISTING.splitlines(keepends=True)
+        forms = ["utility N of N", "cost N of N", "time 0 1 0", "nodes N N", "steps N", "0 N N N"]
+        for k, (line, form) in enumerate(zip(lines, forms)):
+            before = "".join(lines[:k])
+            self.wrong(before, 0, f"the listing ends before '{form}'")
+            self.wrong(before + line[:-1], 0, f"the listing ends before '{form}'")
+            self.wrong(before + "x" + line, k + 1, f"'x{line[:-1]}' in place of '{form}'")
+        self.wrong(LISTING + "1 2 1 2\n", 7, "the listing goes on")
+        self.wrong(LISTING + "\n", 7, "the listing goes on")
+        self.wrong("refused 14 0\n", 1, "a refusal")
+
+    def test_numbers_that_do_not_fit(self):
+        for old, new, line, cause in [
+            ("utility 2 of 3", "utility 4 of 3", 1, "the utility is above the ceiling"),
+            ("cost 1 of 1", "cost 1 of 2", 2, "the bound is 2, the task's is 1"),
+            ("cost 1 of 1", "cost 2 of 1", 2, "the cost is above the bound"),
+            ("time 0 1 0", "time 0 0 1", 3, "'time 0 0 1' in place of 'time 0 1 0'"),
+            ("time 0 1 0", "time 0 01 0", 3, "'time 0 01 0' in place of 'time 0 1 0'"),
+            ("0 1 1 1", "1 1 1 1", 6, "'1 1 1 1' in place of '0 N N N'"),
+            ("0 1 1 1", "0 7 1 1", 6, "the task has no operator 7"),
+            ("0 1 1 1", "0 1 2 2", 6, "b costs 1, 1 so far, not 2 and 2"),
+            ("0 1 1 1", "0 1 1 2", 6, "b costs 1, 1 so far, not 1 and 2"),
+            ("steps 1\n0 1 1 1", "steps 0", 5, "the steps cost 0, not 1"),
+        ]:
+            self.wrong(LISTING.replace(old, new), line, cause)
 
 
 if __name__ == "__main__":

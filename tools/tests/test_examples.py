@@ -18,6 +18,12 @@ class Examples(unittest.TestCase):
             with self.subTest(text.name):
                 self.assertEqual(bpt.encode(bpt.parse(text.read_text())), text.with_suffix(".bpt").read_bytes())
 
+    def test_the_stored_listing_is_whole(self):
+        task = bpt.parse((EXAMPLES / "calibration.task").read_text())
+        named = bpt.explain(task, (EXAMPLES / "calibration.listing").read_text())
+        self.assertIn("time 2 2 0\n", named)
+        self.assertIn("11 14 1 14  reconcile\n", named)
+
 
 if __name__ == "__main__":
     unittest.main()

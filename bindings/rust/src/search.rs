@@ -44,14 +44,20 @@ impl Lists {
     }
 }
 
-/// What a search reports, in the order of the library's answer.
+/// What a search reports: the listing's figures, in the listing's order.
 #[derive(Clone, Copy, Debug, PartialEq, Eq)]
 #[repr(C)]
 pub struct Found {
     pub utility: u64,
     pub ceiling: u64,
+    /// In units of ten seconds, as the bound.
     pub cost: u64,
     pub bound: u64,
+    /// The cost in whole minutes, and the units left over, 0 to 5.
+    pub minutes: u64,
+    pub units: u64,
+    /// The units of the bound that the plan leaves.
+    pub unused: u64,
     pub nodes: u64,
     pub entries: u64,
     pub steps: u64,

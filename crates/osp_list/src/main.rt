@@ -4,6 +4,8 @@ use record_lookup::operator;
 use search::answer::Listing;
 use search::answer::Searched;
 use search::search::search;
+use shift_time::Time;
+use shift_time::time_of;
 use task::records::cost;
 ghost use Prim.Native.Nat.{_≤_};
 ghost use lib.ListN.{length};
@@ -65,6 +67,13 @@ fn print_steps(file: &[u8], plan: &[u16], n: usize)
     }
 }
 
+// The line of the plan's time.
+fn print_time(time: Time) {
+    io::write_all(1, b"time ");
+    io::print_decimal(1, time.minutes as u64);
+    print_pair(b" ", time.units as u64, b" ", time.unused as u64);
+}
+
 // The listing's figures.
 fn print_figures(found: Listing) {
     print_pair(
@@ -74,6 +83,7 @@ fn print_figures(found: Listing) {
         found.ceiling as u64,
     );
     print_pair(b"cost ", found.cost as u64, b" of ", found.bound as u64);
+    print_time(time_of(found.cost, found.bound));
     print_pair(b"nodes ", found.nodes as u64, b" ", found.entries as u64);
     io::write_all(1, b"steps ");
     io::print_decimal(1, found.steps as u64);

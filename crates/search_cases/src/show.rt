@@ -1,6 +1,8 @@
 // Writes a search's answer on a line behind the case's name.
 use search::answer::Listing;
 use search::answer::Searched;
+use shift_time::Time;
+use shift_time::time_of;
 use stand::refused;
 
 // A word and two numbers.
@@ -11,10 +13,18 @@ fn pair(word: &[u8], a: usize, between: &[u8], b: usize) {
     io::print_decimal(1, b as u64);
 }
 
+// A plan's time.
+fn time(taken: Time) {
+    pair(b" time ", taken.minutes, b" ", taken.units);
+    io::write_all(1, b" ");
+    io::print_decimal(1, taken.unused as u64);
+}
+
 // The figures of a listing.
 fn figures(found: Listing) {
     pair(b"utility ", found.utility, b" of ", found.ceiling);
     pair(b" cost ", found.cost, b" of ", found.bound);
+    time(time_of(found.cost, found.bound));
     pair(b" nodes ", found.nodes, b" ", found.entries);
 }
 

@@ -1,5 +1,6 @@
--- Document 01's stand cases as one table, a line for each case. The rows speak of `searchOf` and `walkOf` on the bytes of the stand's files:
--- these are what the contracts of `search::search` and `walk::walk` say the code answers. Assumes nothing.
+-- Document 01's stand cases as one table, a line for each case; a listing has document 02's time. The rows speak of `searchOf` and `walkOf` on
+-- the bytes of the stand's files: these are what the contracts of `search::search` and `walk::walk` say the code answers; `timeOf` is what that
+-- of `shift_time::time_of` says. Assumes nothing.
 use Prim.Native.Nat.{ℕ, zero, suc}
 use mathlib.Core.Path.{_≡_, refl, sym, ap, subst, _∙_}
 use mathlib.Core.Bool.{true, false}
@@ -26,6 +27,8 @@ use Rattle.search.specs.declared.answer.Searched.the-variants.{Refused, Found}
 use Rattle.search.specs.Lent.{Lent, lent}
 use Rattle.search.specs.Search.{anyWrong, madeOf, setsOf, searchOf}
 use Rattle.search.proofs.Table as searches
+use Rattle.shift_time.specs.declared.Time.{Time}
+use Rattle.shift_time.specs.Time.{timeOf}
 use Rattle.stand_table.proofs.Files.{Holds, files}
 
 -- v levels, n node entries, e utility entries and p steps are lent, and working lists without an entry
@@ -36,11 +39,13 @@ lists v n e p = lent (replicate v 0) (replicate n 0) (replicate n 0) (replicate 
 abbrev pub figures : ℕ → ℕ → ℕ → ℕ → ℕ → ℕ → ℕ → Searched
 figures u c g b n e k = Found (record { utility = u; ceiling = c; cost = g; bound = b; nodes = n; entries = e; steps = k })
 
--- the search answers with utility u of c, cost g of b, nodes n and e; the plan that it hands over is p, and p is the best plan
-pub record Finds (f : List ℕ) (l : Lent) (u c g b n e : ℕ) (p : List ℕ) : Type 0 where
-  pub answers : searchOf f l ≡ figures u c g b n e (length p)
-  pub hands-over : planOf (taskOf f) ≡ p
-  pub best : Best (taskOf f) p
+-- the listing's lines: the search answers with utility and ceiling, cost and bound, and the two counts of nodes; minutes, units left over and
+-- units unused are those of cost and bound; the plan that it hands over is this one, and this is the best plan
+pub record Finds (f : List ℕ) (l : Lent) (utility cost : ℕ × ℕ) (time : ℕ × ℕ × ℕ) (nodes : ℕ × ℕ) (plan : List ℕ) : Type 0 where
+  pub answers : searchOf f l ≡ figures (utility .0) (utility .1) (cost .0) (cost .1) (nodes .0) (nodes .1) (length plan)
+  pub takes : timeOf (cost .0) (cost .1) ≡ record { minutes = time .0; units = time .1; unused = time .2 }
+  pub hands-over : planOf (taskOf f) ≡ plan
+  pub best : Best (taskOf f) plan
 
 -- so many variables of 16 values, starting at 0
 unfoldable pub sixteens : ℕ → List ℕ
@@ -50,11 +55,11 @@ sixteens (suc n) = 16 ∷ 0 ∷ sixteens n
 -- The starred cases. A walked plan has two bytes a step.
 pub record Starred : Type 0 where
   -- P, b = 0: no steps, utility 0, nodes 2 6
-  pub P-0 : Finds (fileP 0) (lists 1 2 6 0) 0 3 0 0 2 6 []
-  -- P, b = 1 with 8 node entries: accepted, the listing of osp-list
-  pub P-1 : Finds (fileP 1) (lists 2 8 6 1) 2 3 1 1 8 6 (1 ∷ [])
+  pub P-0 : Finds (fileP 0) (lists 1 2 6 0) (0, 3) (0, 0) (0, 0, 0) (2, 6) []
+  -- P, b = 1 with 8 node entries: accepted, the listing of osp-list, time 0 1 0
+  pub P-1 : Finds (fileP 1) (lists 2 8 6 1) (2, 3) (1, 1) (0, 1, 0) (8, 6) (1 ∷ [])
   -- P, b = 2: plan 1, 2; utility 3; cost 2
-  pub P-2 : Finds (fileP 2) (lists 3 10 6 2) 3 3 2 2 10 6 (1 ∷ 2 ∷ [])
+  pub P-2 : Finds (fileP 2) (lists 3 10 6 2) (3, 3) (2, 2) (0, 2, 0) (10, 6) (1 ∷ 2 ∷ [])
   -- P, b = 1 with 7 node entries: refused 14
   pub nodes-7 : searchOf (fileP 1) (lists 2 7 6 1) ≡ Refused 14 0
   -- P, b = 1 with a plan list of 0: refused 15
@@ -66,11 +71,11 @@ pub record Starred : Type 0 where
   -- walk 1, 1: 18 at step 1
   pub walk-1-1 : numbers (walkOf (fileP 2) (1 ∷ 0 ∷ 1 ∷ 0 ∷ [])) ≡ (18, 1, 0)
   -- Q, b = 5: plan 1, 2 at cost 4
-  pub Q-5 : Finds (fileQ 5) (lists 6 8 6 2) 7 7 4 5 8 4 (1 ∷ 2 ∷ [])
+  pub Q-5 : Finds (fileQ 5) (lists 6 8 6 2) (7, 7) (4, 5) (0, 4, 1) (8, 4) (1 ∷ 2 ∷ [])
   -- Q, b = 4: the same
-  pub Q-4 : Finds (fileQ 4) (lists 5 8 6 2) 7 7 4 4 8 4 (1 ∷ 2 ∷ [])
+  pub Q-4 : Finds (fileQ 4) (lists 5 8 6 2) (7, 7) (4, 4) (0, 4, 0) (8, 4) (1 ∷ 2 ∷ [])
   -- Q, b = 3: no steps
-  pub Q-3 : Finds (fileQ 3) (lists 4 5 6 0) 0 7 0 3 5 4 []
+  pub Q-3 : Finds (fileQ 3) (lists 4 5 6 0) (0, 7) (0, 3) (0, 0, 3) (5, 4) []
 
 -- The others.
 pub record Unstarred : Type 0 where
@@ -104,16 +109,18 @@ unfolding searchOf pick
 short l h s = rw (h .sound, h .task, s)
 
 finds :
-    {f : List ℕ} {t : Task} {l : Lent} {u c g b n e : ℕ} {p : List ℕ}
+    {f : List ℕ} {t : Task} {l : Lent} {utility cost : ℕ × ℕ} {time : ℕ × ℕ × ℕ} {nodes : ℕ × ℕ} {plan : List ℕ}
     → Holds f t
-    → searchOf f l ≡ figures u c g b n e (length p)
-    → planOf t ≡ p
-    → Best t p
-    → Finds f l u c g b n e p
-finds {p = p} h a r s = record {
+    → searchOf f l ≡ figures (utility .0) (utility .1) (cost .0) (cost .1) (nodes .0) (nodes .1) (length plan)
+    → timeOf (cost .0) (cost .1) ≡ record { minutes = time .0; units = time .1; unused = time .2 }
+    → planOf t ≡ plan
+    → Best t plan
+    → Finds f l utility cost time nodes plan
+finds {plan = plan} h a m r s = record {
   answers = a;
+  takes = m;
   hands-over = ap planOf (h .task) ∙ r;
-  best = subst (λ x. Best x p) (sym (h .task)) s;
+  best = subst (λ x. Best x plan) (sym (h .task)) s;
 }
 
 w12 : walkOf (fileP 2) (1 ∷ 0 ∷ 2 ∷ 0 ∷ []) ≡ Reached 2 3
@@ -131,17 +138,17 @@ w3 = cc walks
 pub starred : Starred
 unfolding levelsShort listsWrong anyWrong _or_ P Q
 starred = record {
-  P-0 = finds (files .0) (due 1 2 6 0 (files .0) refl refl ∙ searches.P-with-0) (sets.P-0 .plan-is) (plan-rows .0 .plan);
-  P-1 = finds (files .1) (due 2 8 6 1 (files .1) refl refl ∙ searches.P-with-1) (sets.P-1 .plan-is) (plan-rows .1 .plan);
-  P-2 = finds (files .2) (due 3 10 6 2 (files .2) refl refl ∙ searches.P-with-2) (sets.P-2 .plan-is) (plan-rows .2 .plan);
+  P-0 = finds (files .0) (due 1 2 6 0 (files .0) refl refl ∙ searches.P-with-0) refl (sets.P-0 .plan-is) (plan-rows .0 .plan);
+  P-1 = finds (files .1) (due 2 8 6 1 (files .1) refl refl ∙ searches.P-with-1) refl (sets.P-1 .plan-is) (plan-rows .1 .plan);
+  P-2 = finds (files .2) (due 3 10 6 2 (files .2) refl refl ∙ searches.P-with-2) refl (sets.P-2 .plan-is) (plan-rows .2 .plan);
   nodes-7 = due 2 7 6 1 (files .1) refl refl ∙ searches.P-nodes-7;
   steps-0 = due 2 8 6 0 (files .1) refl refl ∙ searches.P-plan-0;
   walk-1-2 = ap numbers w12;
   walk-above = ap numbers above;
   walk-1-1 = ap numbers w11;
-  Q-5 = finds (files .5) (due 6 8 6 2 (files .5) refl refl ∙ searches.Q-with-5) (sets.Q-5 .plan-is) (plan-rows .5 .plan);
-  Q-4 = finds (files .4) (due 5 8 6 2 (files .4) refl refl ∙ searches.Q-with-4) (sets.Q-4 .plan-is) (plan-rows .4 .plan);
-  Q-3 = finds (files .3) (due 4 5 6 0 (files .3) refl refl ∙ searches.Q-with-3) (sets.Q-3 .plan-is) (plan-rows .3 .plan);
+  Q-5 = finds (files .5) (due 6 8 6 2 (files .5) refl refl ∙ searches.Q-with-5) refl (sets.Q-5 .plan-is) (plan-rows .5 .plan);
+  Q-4 = finds (files .4) (due 5 8 6 2 (files .4) refl refl ∙ searches.Q-with-4) refl (sets.Q-4 .plan-is) (plan-rows .4 .plan);
+  Q-3 = finds (files .3) (due 4 5 6 0 (files .3) refl refl ∙ searches.Q-with-3) refl (sets.Q-3 .plan-is) (plan-rows .3 .plan);
 }
 
 pub unstarred : Unstarred

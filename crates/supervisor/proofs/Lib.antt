@@ -1,2 +1,3 @@
 pub mod Reports
 pub mod Asked
+pub mod Timed

@@ -7,6 +7,8 @@ use Rattle.search.specs.declared.answer.Searched.{Searched}
 use Rattle.search.specs.Lent.{Lent}
 use Rattle.search.specs.Answers.{numbers, figures}
 use Rattle.search.specs.Search.{searchOf, Leaves}
+use Rattle.shift_time.specs.declared.Time.{Time}
+use Rattle.shift_time.specs.Time.{timeOf}
 use Rattle.supervisor.specs.declared.Report.{Report}
 use Rattle.supervisor.specs.declared.Totals.{Totals}
 
@@ -18,6 +20,10 @@ reported r = (r .number, r .first, r .second)
 abbrev pub checkNumbers : ℕ × ℕ → ℕ × ℕ × ℕ
 checkNumbers a = (a .0, a .1, 0)
 
+-- the listing's time; all 0 after a refusal
+abbrev pub time : Searched → Time
+time r = timeOf (figures r .cost) (figures r .bound)
+
 -- the search's number and value, and the figures of the listing
 abbrev pub totalsOf : Searched → Totals
 totalsOf r = record {
@@ -27,6 +33,9 @@ totalsOf r = record {
   ceiling = figures r .ceiling;
   cost = figures r .cost;
   bound = figures r .bound;
+  minutes = time r .minutes;
+  units = time r .units;
+  unused = time r .unused;
   nodes = figures r .nodes;
   entries = figures r .entries;
   steps = figures r .steps;

@@ -3,6 +3,7 @@ use question::Answered;
 use question::question;
 use search::answer::Searched;
 use search::search::search;
+use shift_time::time_of;
 use task_check::Checked;
 use task_check::check;
 use walk::Walked;
@@ -72,6 +73,9 @@ pub struct Totals {
     pub ceiling: u64,
     pub cost: u64,
     pub bound: u64,
+    pub minutes: u64,
+    pub units: u64,
+    pub unused: u64,
     pub nodes: u64,
     pub entries: u64,
     pub steps: u64,
@@ -89,21 +93,30 @@ fn totals_of(answer: Searched) -> Totals
             ceiling: 0,
             cost: 0,
             bound: 0,
+            minutes: 0,
+            units: 0,
+            unused: 0,
             nodes: 0,
             entries: 0,
             steps: 0,
         },
-        Searched::Found(found) => Totals {
-            number: 0,
-            value: 0,
-            utility: found.utility as u64,
-            ceiling: found.ceiling as u64,
-            cost: found.cost as u64,
-            bound: found.bound as u64,
-            nodes: found.nodes as u64,
-            entries: found.entries as u64,
-            steps: found.steps as u64,
-        },
+        Searched::Found(found) => {
+            let time = time_of(found.cost, found.bound);
+            Totals {
+                number: 0,
+                value: 0,
+                utility: found.utility as u64,
+                ceiling: found.ceiling as u64,
+                cost: found.cost as u64,
+                bound: found.bound as u64,
+                minutes: time.minutes as u64,
+                units: time.units as u64,
+                unused: time.unused as u64,
+                nodes: found.nodes as u64,
+                entries: found.entries as u64,
+                steps: found.steps as u64,
+            }
+        }
     }
 }
 

@@ -6,12 +6,13 @@ use reference::task::{apply, holds, State};
 use std::collections::HashMap;
 
 /// The names of the features, in the order of `features`.
-pub const NAMES: [&str; 5] = [
+pub const NAMES: [&str; 6] = [
     "many equal cost sums",
     "ties in utility",
     "effects without preconditions",
     "domains that are no powers of two",
     "plans of several steps",
+    "plans of a minute or more",
 ];
 
 /// So many states with several cheapest sequences are many.
@@ -51,6 +52,7 @@ pub fn features(found: &Found) -> [bool; NAMES.len()] {
         free_effect(found),
         found.task.sizes.iter().any(|d| !d.is_power_of_two()),
         found.best.plan.len() > 1,
+        found.time().0 > 0,
     ]
 }
 

@@ -111,6 +111,7 @@ fn compare_levels(task: &Task, reached: &Reached, lists: &Lists) -> Result<(), D
 fn compare_found(found: &laurelsnap::Found, expected: &mut Found, before: &Lists, lists: &Lists) -> Result<(), Difference> {
     same("utility and ceiling", (found.utility, found.ceiling), (expected.best.utility, expected.ceiling))?;
     same("cost and bound", (found.cost, found.bound), (expected.best.cost, expected.task.bound))?;
+    same("time", (found.minutes, found.units, found.unused), expected.time())?;
     same("nodes and utility entries", (found.nodes, found.entries), (expected.nodes, expected.entries))?;
     same("plan", found.plan(lists), &expected.best.plan)?;
     same("node entries", expected.test_lists(&lists.levels, &lists.bit, &lists.low, &lists.high), Ok(()))?;

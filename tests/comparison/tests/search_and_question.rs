@@ -150,6 +150,7 @@ fn the_worked_task() {
     let mut lists = Lists::new(1_024, 512);
     let found = search(&example("calibration"), &mut lists).expect("a plan");
     assert_eq!((found.utility, found.ceiling, found.cost, found.bound), (13, 16, 14, 14));
+    assert_eq!((found.minutes, found.units, found.unused), (2, 2, 0));
     assert_eq!((found.nodes, found.entries), (1_011, 58));
     assert_eq!(found.plan(&lists), [1, 2, 3, 4, 5, 7, 10, 6, 9, 12, 13, 14]);
     let start = [1, 0, 1, 0, 0, 0, 0, 0, 0, 0, 0];

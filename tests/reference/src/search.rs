@@ -65,10 +65,20 @@ pub fn search(file: &[u8], lengths: &Lengths) -> Result<Found, Refusal> {
 }
 
 impl Found {
+    /// Whole minutes, units left over and units unused: minutes are taken off the cost as long as there is one in it.
+    pub fn time(&self) -> (u64, u64, u64) {
+        let (mut minutes, mut units) = (0, self.best.cost);
+        while units > 5 {
+            (minutes, units) = (minutes + 1, units - 6);
+        }
+        (minutes, units, self.task.bound - self.best.cost)
+    }
+
     /// The listing that osp-list prints.
     pub fn listing(&self) -> String {
+        let (minutes, units, unused) = self.time();
         let mut out = format!(
-            "utility {} of {}\ncost {} of {}\nnodes {} {}\nsteps {}\n",
+            "utility {} of {}\ncost {} of {}\ntime {minutes} {units} {unused}\nnodes {} {}\nsteps {}\n",
             self.best.utility,
             self.ceiling,
             self.best.cost,

@@ -9,9 +9,10 @@ fn example(name: &str) -> Vec<u8> {
     std::fs::read(format!("{}/../../examples/{name}.bpt", env!("CARGO_MANIFEST_DIR"))).expect("an example file")
 }
 
-fn figures(name: &str) -> (u64, u64, u64, u64, Vec<u16>) {
+fn figures(name: &str) -> (u64, u64, (u64, u64, u64), u64, u64, Vec<u16>) {
     let found = search(&example(name), &OSP_LIST).expect("a plan");
-    (found.best.utility, found.best.cost, found.nodes, found.entries, found.best.plan)
+    let time = found.time();
+    (found.best.utility, found.best.cost, time, found.nodes, found.entries, found.best.plan)
 }
 
 fn refused(number: u64, value: u64) -> Refusal {
@@ -20,18 +21,18 @@ fn refused(number: u64, value: u64) -> Refusal {
 
 #[test]
 fn p_and_q() {
-    assert_eq!(figures("p-0"), (0, 0, 2, 6, vec![]));
-    assert_eq!(figures("p-1"), (2, 1, 8, 6, vec![1]));
-    assert_eq!(figures("p-2"), (3, 2, 10, 6, vec![1, 2]));
-    assert_eq!(figures("q-3"), (0, 0, 5, 4, vec![]));
-    assert_eq!(figures("q-4"), (7, 4, 8, 4, vec![1, 2]));
-    assert_eq!(figures("q-5"), (7, 4, 8, 4, vec![1, 2]));
+    assert_eq!(figures("p-0"), (0, 0, (0, 0, 0), 2, 6, vec![]));
+    assert_eq!(figures("p-1"), (2, 1, (0, 1, 0), 8, 6, vec![1]));
+    assert_eq!(figures("p-2"), (3, 2, (0, 2, 0), 10, 6, vec![1, 2]));
+    assert_eq!(figures("q-3"), (0, 0, (0, 0, 3), 5, 4, vec![]));
+    assert_eq!(figures("q-4"), (7, 4, (0, 4, 0), 8, 4, vec![1, 2]));
+    assert_eq!(figures("q-5"), (7, 4, (0, 4, 1), 8, 4, vec![1, 2]));
 }
 
 #[test]
 fn the_listing() {
     let found = search(&example("p-1"), &OSP_LIST).expect("a plan");
-    assert_eq!(found.listing(), "utility 2 of 3\ncost 1 of 1\nnodes 8 6\nsteps 1\n0 1 1 1\n");
+    assert_eq!(found.listing(), "utility 2 of 3\ncost 1 of 1\ntime 0 1 0\nnodes 8 6\nsteps 1\n0 1 1 1\n");
 }
 
 #[test]
