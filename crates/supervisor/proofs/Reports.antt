@@ -5,11 +5,7 @@ use mathlib.Core.List.{List}
 use Rattle.task.specs.Decode.{taskOf}
 use Rattle.search.specs.Lent.{Lent}
 use Rattle.search.specs.Search.{Leaves, Searches}
-use Rattle.search.specs.declared.answer.Listing.{Listing}
 use Rattle.search.specs.declared.answer.Searched.{Searched}
-use Rattle.search.specs.declared.answer.Searched.the-variants.{Found}
-use Rattle.shift_time.specs.declared.Time.{Time}
-use Rattle.shift_time.specs.Time.{timeOf}
 use Rattle.supervisor.specs.Reports.{totalsOf, Reports}
 use Rattle.supervisor.specs.declared.Totals.{Totals}
 
@@ -21,23 +17,3 @@ search-is w f before after x s r = record {
   answers = r ∙ ap totalsOf (s .answers);
   leaves = subst (λ (a : Searched). Leaves (taskOf f) a before after) (s .answers) (s .leaves);
 }
-
--- the totals of a listing with this time
-abbrev timed : Listing → Time → Totals
-timed l t = record {
-  number = 0;
-  value = 0;
-  utility = l .utility;
-  ceiling = l .ceiling;
-  cost = l .cost;
-  bound = l .bound;
-  minutes = t .minutes;
-  units = t .units;
-  unused = t .unused;
-  nodes = l .nodes;
-  entries = l .entries;
-  steps = l .steps;
-}
-
-pub found-is : (a : Searched) (l : Listing) (t : Time) → a ≡ Found l → t ≡ timeOf (l .cost) (l .bound) → timed l t ≡ totalsOf a
-found-is a l t e z = ap (timed l) z ∙ ap totalsOf (sym e)

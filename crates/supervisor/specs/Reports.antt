@@ -3,11 +3,11 @@ use Prim.Native.Nat.{ℕ}
 use mathlib.Core.Path.{_≡_}
 use mathlib.Core.List.{List}
 use Rattle.task.specs.Decode.{taskOf}
+use Rattle.search.specs.declared.answer.Listing.{Listing}
 use Rattle.search.specs.declared.answer.Searched.{Searched}
 use Rattle.search.specs.Lent.{Lent}
 use Rattle.search.specs.Answers.{numbers, figures}
 use Rattle.search.specs.Search.{searchOf, Leaves}
-use Rattle.shift_time.specs.declared.Time.{Time}
 use Rattle.shift_time.specs.Time.{timeOf}
 use Rattle.supervisor.specs.declared.Report.{Report}
 use Rattle.supervisor.specs.declared.Totals.{Totals}
@@ -20,26 +20,26 @@ reported r = (r .number, r .first, r .second)
 abbrev pub checkNumbers : ℕ × ℕ → ℕ × ℕ × ℕ
 checkNumbers a = (a .0, a .1, 0)
 
--- the listing's time; all 0 after a refusal
-abbrev pub time : Searched → Time
-time r = timeOf (figures r .cost) (figures r .bound)
-
--- the search's number and value, and the figures of the listing
-abbrev pub totalsOf : Searched → Totals
-totalsOf r = record {
-  number = numbers r .0;
-  value = numbers r .1;
-  utility = figures r .utility;
-  ceiling = figures r .ceiling;
-  cost = figures r .cost;
-  bound = figures r .bound;
-  minutes = time r .minutes;
-  units = time r .units;
-  unused = time r .unused;
-  nodes = figures r .nodes;
-  entries = figures r .entries;
-  steps = figures r .steps;
+-- a number, a value, and the figures of a listing with its time
+abbrev pub totalsWith : ℕ → ℕ → Listing → Totals
+totalsWith number value l = record {
+  number = number;
+  value = value;
+  utility = l .utility;
+  ceiling = l .ceiling;
+  cost = l .cost;
+  bound = l .bound;
+  minutes = timeOf (l .cost) (l .bound) .minutes;
+  units = timeOf (l .cost) (l .bound) .units;
+  unused = timeOf (l .cost) (l .bound) .unused;
+  nodes = l .nodes;
+  entries = l .entries;
+  steps = l .steps;
 }
+
+-- the search's number and value, and the figures of the listing, all 0 after a refusal
+abbrev pub totalsOf : Searched → Totals
+totalsOf r = totalsWith (numbers r .0) (numbers r .1) (figures r)
 
 -- the totals are those of the definition's answer, and the lists hold what it says
 pub record Reports (f : List ℕ) (before after : Lent) (r : Totals) : Type 0 where

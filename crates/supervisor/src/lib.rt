@@ -1,6 +1,7 @@
 // The file check, the walk, the search and the question for callers in C; include/laurelsnap.h describes them there.
 use question::Answered;
 use question::question;
+use search::answer::Listing;
 use search::answer::Searched;
 use search::search::search;
 use shift_time::time_of;
@@ -14,9 +15,10 @@ ghost use Rattle.task.specs.Check.{checkOf};
 ghost use Rattle.walk.specs.Walk.{walkOf};
 ghost use Rattle.walk.specs.Answers.{numbers as walkNumbers};
 ghost use Rattle.search.specs.Lent.{lent};
+ghost use Rattle.search.specs.Answers.{noFigures};
 ghost use Rattle.question.specs.Question.{questionOf};
 ghost use Rattle.question.specs.Answers.{numbers as questionNumbers};
-ghost use Rattle.supervisor.specs.Reports.{reported, checkNumbers, totalsOf, Reports};
+ghost use Rattle.supervisor.specs.Reports.{reported, checkNumbers, totalsWith, totalsOf, Reports};
 
 // An answer as C gets it: document 01's number, and two values.
 #[repr(C)]
@@ -81,42 +83,51 @@ pub struct Totals {
     pub steps: u64,
 }
 
+// A number, a value, and the figures of a listing with its time.
+fn totals_with(number: u64, value: u64, found: Listing) -> Totals
+    ensures { λ r. ⌜ r ≡ totalsWith number value found ⌝ }
+{
+    let time = time_of(found.cost, found.bound);
+    Totals {
+        number,
+        value,
+        utility: found.utility as u64,
+        ceiling: found.ceiling as u64,
+        cost: found.cost as u64,
+        bound: found.bound as u64,
+        minutes: time.minutes as u64,
+        units: time.units as u64,
+        unused: time.unused as u64,
+        nodes: found.nodes as u64,
+        entries: found.entries as u64,
+        steps: found.steps as u64,
+    }
+}
+
+// The figures after a refusal.
+fn no_figures() -> Listing
+    ensures { λ r. ⌜ r ≡ noFigures ⌝ }
+{
+    Listing {
+        utility: 0,
+        ceiling: 0,
+        cost: 0,
+        bound: 0,
+        nodes: 0,
+        entries: 0,
+        steps: 0,
+    }
+}
+
 // The totals of a search's answer.
 fn totals_of(answer: Searched) -> Totals
     ensures { λ r. ⌜ r ≡ totalsOf answer ⌝ }
 {
     match answer {
-        Searched::Refused { number, place } => Totals {
-            number: number as u64,
-            value: place as u64,
-            utility: 0,
-            ceiling: 0,
-            cost: 0,
-            bound: 0,
-            minutes: 0,
-            units: 0,
-            unused: 0,
-            nodes: 0,
-            entries: 0,
-            steps: 0,
-        },
-        Searched::Found(found) => {
-            let time = time_of(found.cost, found.bound);
-            Totals {
-                number: 0,
-                value: 0,
-                utility: found.utility as u64,
-                ceiling: found.ceiling as u64,
-                cost: found.cost as u64,
-                bound: found.bound as u64,
-                minutes: time.minutes as u64,
-                units: time.units as u64,
-                unused: time.unused as u64,
-                nodes: found.nodes as u64,
-                entries: found.entries as u64,
-                steps: found.steps as u64,
-            }
+        Searched::Refused { number, place } => {
+            totals_with(number as u64, place as u64, no_figures())
         }
+        Searched::Found(found) => totals_with(0, 0, found),
     }
 }
 
