@@ -429,9 +429,9 @@ class Listing:
 
 def explain(task, text):
     """A whole listing for the task, with each step's operator named behind it. Any other text raises TextErrors."""
-    if text.startswith("refused "):
-        raise TextErrors([(1, "a refusal, no listing; include/laurelsnap.h tells the cause of its number")])
     listing = Listing(text)
+    if text.startswith("refused "):
+        raise TextErrors([(1, f"'{listing.lines[0]}' is a refusal, no listing; include/laurelsnap.h tells its cause")])
     utility, ceiling = listing.read("utility N of N")
     if utility > ceiling:
         raise listing.fault("the utility is above the ceiling")

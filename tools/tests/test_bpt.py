@@ -269,7 +269,7 @@ class Listings(unittest.TestCase):
             self.wrong(before + "x" + line, k + 1, f"'x{line[:-1]}' in place of '{form}'")
         self.wrong(LISTING + "1 2 1 2\n", 7, "the listing goes on")
         self.wrong(LISTING + "\n", 7, "the listing goes on")
-        self.wrong("refused 14 0\n", 1, "a refusal")
+        self.wrong("refused 14 0\n", 1, "'refused 14 0' is a refusal")
 
     def test_numbers_that_do_not_fit(self):
         for old, new, line, cause in [
