@@ -27,7 +27,6 @@ use Rattle.search.specs.declared.answer.Searched.the-variants.{Refused, Found}
 use Rattle.search.specs.Lent.{Lent, lent}
 use Rattle.search.specs.Search.{anyWrong, madeOf, setsOf, searchOf}
 use Rattle.search.proofs.Table as searches
-use Rattle.shift_time.specs.declared.Time.{Time}
 use Rattle.shift_time.specs.Time.{timeOf}
 use Rattle.stand_table.proofs.Files.{Holds, files}
 
