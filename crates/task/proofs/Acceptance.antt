@@ -17,7 +17,7 @@ use Rattle.task.specs.Limits.{operatorBytes, mostVariables, mostOperator
 use Rattle.task.specs.Bytes.{part}
 use Rattle.task.specs.Format.{variables, operators, terms, operatorsAt, operatorRecord, termRecord, factVariable, preconditions, effects, termCount, termFacts}
 use Rattle.task.specs.Decode.{sizes}
-use Rattle.task.specs.Check.{countsRight, sectionInside, allInside, headerFault, namesVariable, hasValue, rises, usedRight, unusedRight, factRight, factsRight, variableRight, costRight, factCountsRight, preconditionsRight, effectsRight, operatorRecordRight, operatorRight, termCountsRight, termFactsRight, termRecordRight, termRight, firstBadVariable, firstBadOperator, firstBadTerm, checkTerms, checkOperators, checkBits, checkVariables, checkOf, accepted}
+use Rattle.task.specs.Check.{countsRight, sectionInside, allInside, allApart, headerFault, namesVariable, hasValue, rises, usedRight, unusedRight, factRight, factsRight, variableRight, costRight, factCountsRight, preconditionsRight, effectsRight, operatorRecordRight, operatorRight, termCountsRight, termFactsRight, termRecordRight, termRight, firstBadVariable, firstBadOperator, firstBadTerm, checkTerms, checkOperators, checkBits, checkVariables, checkOf, accepted}
 use Rattle.task.specs.Sound.{RightVariable, RightFact, RightRow, RightOperator, RightTerm, Sound}
 use Rattle.planning.proofs.Guards.{pick-yes, and-both}
 use Rattle.planning.proofs.Scan.{every-at}
@@ -44,9 +44,10 @@ or-second true b e h = let z : _≡_ {A = ℕ} 0 1 = cc in absurd (omega arith)
 or-second false b e h = e
 
 -- ---- the header
-record RightHeader (f : List ℕ) : Type 0 where
+pub record RightHeader (f : List ℕ) : Type 0 where
   pub counts : countsRight f ≡ true
   pub inside : allInside f ≡ true
+  pub apart : allApart f ≡ true
 
 header-sound : (f : List ℕ) → headerFault f ≡ 0 → RightHeader f
 unfolding headerFault
@@ -57,7 +58,8 @@ header-sound f e =
     let d = not-no _ _ _ _ (c .1) (λ q. omega arith) in
     let g = not-no _ _ _ _ (d .1) (λ q. omega arith) in
     let i = not-no _ _ _ _ (g .1) (λ q. omega arith) in
-    record { counts = g .0; inside = i .0 }
+    let k = not-no _ _ _ _ (i .1) (λ q. omega arith) in
+    record { counts = g .0; inside = i .0; apart = k .0 }
 
 -- ---- the answer's number is 0: each choice went on
 number-zero : (b : Bool) (x y : ℕ × ℕ) → pick b x y .0 ≡ 0 → (y .0 ≡ 0 → ⊥) → (b ≡ true) × (x .0 ≡ 0)
@@ -69,6 +71,14 @@ fault-zero : (n : ℕ) (x : ℕ × ℕ) (b : Bool) → eqb n 0 ≡ b → pick b 
 unfolding pick
 fault-zero n x true e h = (eqb-true n 0 e, h)
 fault-zero n x false e h = absurd (eqb-false n 0 e h)
+
+-- an accepted file's header gives no refusal, and is right
+pub header-passes : (f : List ℕ) → accepted f ≡ true → headerFault f ≡ 0
+unfolding accepted checkOf
+header-passes f e = fault-zero (headerFault f) (checkVariables f) _ refl (eqb-true (checkOf f .0) 0 e) .0
+
+pub header-is : (f : List ℕ) → accepted f ≡ true → RightHeader f
+header-is f e = header-sound f (header-passes f e)
 
 record Passed (f : List ℕ) : Type 0 where
   pub header : RightHeader f
