@@ -6,6 +6,10 @@ use Rattle.task.specs.Decode.{taskOf}
 use Rattle.search.specs.Lent.{Lent}
 use Rattle.search.specs.Search.{Leaves, Searches}
 use Rattle.search.specs.declared.answer.Searched.{Searched}
+use lib.ListN.{length}
+use Rattle.writer.specs.declared.Written.{Written}
+use Rattle.writer.specs.Write.{writeOf, leaves}
+use Rattle.writer.specs.Answers.{numbers as writeNumbers}
 use Rattle.supervisor.specs.Reports.{totalsOf, Reports}
 use Rattle.supervisor.specs.declared.Totals.{Totals}
 
@@ -17,3 +21,7 @@ search-is w f before after x s r = record {
   answers = r ∙ ap totalsOf (s .answers);
   leaves = subst (λ (a : Searched). Leaves (taskOf f) a before after) (s .answers) (s .leaves);
 }
+
+pub write-is : (w v : Written) (f out out′ : List ℕ) (x : ℕ × ℕ × ℕ) → w ≡ v → (w ≡ writeOf f (length out)) × (out′ ≡ leaves w f out) → x ≡ writeNumbers v
+    → (x ≡ writeNumbers (writeOf f (length out))) × (out′ ≡ leaves (writeOf f (length out)) f out)
+write-is w v f out out′ x e s r = (case-is writeNumbers w v (writeOf f (length out)) x e (s .0) r, s .1 ∙ ap (λ (a : Written). leaves a f out) (s .0))

@@ -1,4 +1,4 @@
-// The file check, the walk, the search and the question for callers in C; include/laurelsnap.h describes them there.
+// The file check, the writer, the walk, the search and the question for callers in C; include/laurelsnap.h describes them there.
 use question::Answered;
 use question::question;
 use search::answer::Listing;
@@ -10,8 +10,13 @@ use task_check::check;
 use walk::Walked;
 use walk::fault_number;
 use walk::walk;
+use writer::Written;
+use writer::write;
 ghost use mathlib.Core.Path.{_≡_};
+ghost use lib.ListN.{length};
 ghost use Rattle.task.specs.Check.{checkOf};
+ghost use Rattle.writer.specs.Write.{writeOf, leaves};
+ghost use Rattle.writer.specs.Answers.{numbers as writeNumbers};
 ghost use Rattle.walk.specs.Walk.{walkOf};
 ghost use Rattle.walk.specs.Answers.{numbers as walkNumbers};
 ghost use Rattle.search.specs.Lent.{lent};
@@ -47,6 +52,23 @@ pub extern "C" fn laurelsnap_check(file: &[u8]) -> Report
     match check(file) {
         Checked::Accepted => reply(0, 0, 0),
         Checked::Refused { number, place } => reply(number as u64, place as u64, 0),
+    }
+}
+
+// The writer: 0 and the length written, or the refusal's number and value.
+#[no_mangle]
+pub extern "C" fn laurelsnap_write(file: &[u8], out: &mut [u8]) -> Report
+    ensures { λ r.
+        let f = now (file .entry) in
+        let before = now (out .entry) in
+        let after = now (out .exit) in
+        let answer = writeOf f (length before) in
+        ⌜ (reported r ≡ writeNumbers answer) × (after ≡ leaves answer f before) ⌝ }
+{
+    match write(file, out) {
+        Written::Unread { number, place } => reply(number as u64, place as u64, 0),
+        Written::Short => reply(22, 0, 0),
+        Written::Whole { length } => reply(0, length as u64, 0),
     }
 }
 
