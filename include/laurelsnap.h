@@ -1,18 +1,21 @@
 /*
- * Laurelsnap for C: the file check, the walk of a given plan, the search for the best plan, and the question what a state costs at least.
+ * Laurelsnap for C: the file check, the writer of canonical files, the walk of a given plan, the search for the best plan, and the
+ * question what a state costs at least.
  *
  * Link with the static library that `rt staticlib supervisor` writes, target/staticlib/libsupervisor.a.
  *
  * Arguments
  *   A byte string is given by the address of its first byte and its length. The address is never null, not even where the
- *   length is 0: give the address of any object then. The bytes are only read, and only during the call; nothing is kept,
- *   nothing is allocated, and calls from several threads do not disturb each other. Any bytes will do: every input gets an
- *   answer. A walked plan is two bytes for each step, the operator's number, low byte first. Lists are lent in the same way, as address
- *   and number of entries; two lent lists never share memory.
+ *   length is 0: give the address of any object then. Lists, the writer's output list of bytes among them, are lent in the same way, as
+ *   address and number of entries; a lent list never shares memory with another one or with a byte string. What is const is only read,
+ *   and all of it only during the call; nothing is kept, nothing is allocated, and calls from several threads do not disturb each
+ *   other as long as none is lent a list that another one uses. Any bytes will do: every input gets an answer. A walked plan is two
+ *   bytes for each step, the operator's number, low byte first.
  *
  * Answers
  *   `number` is 0 for success, else a refusal's number (enum laurelsnap_refusal). The two values, `first` and `second`, are
  *     file check, passed           0, 0
+ *     writer, written              the length written, 0
  *     walk, succeeded              cost, utility of the state reached
  *     question, reached            the least cost, 1
  *     question, not reached        0, 0
@@ -23,7 +26,7 @@
  *   Records and steps are counted from 0. Only the first fault is told.
  *
  * What a refusal leaves as it was
- *     1 to 12, 16 to 21            every list, the working lists too
+ *     1 to 12, 16 to 22            every list, the working lists too
  *     13                           level list, node lists and plan
  *     14 and 15                    the plan
  */
@@ -43,7 +46,8 @@ struct laurelsnap_answer {
     uint64_t second;
 };
 
-/* The refusals in order. The file check finds 1 to 10; the walk those and 16 to 19, the search 1 to 15, the question 1 to 12, 20 and 21. */
+/* The refusals in order. The file check finds 1 to 10; the writer those and then 22, the walk those and 16 to 19, the search 1 to 15, the
+   question 1 to 12, 20 and 21. */
 enum laurelsnap_refusal {
     LAURELSNAP_OK = 0,
     LAURELSNAP_SHORT_FILE = 1,         /* file under 28 bytes */
@@ -66,11 +70,17 @@ enum laurelsnap_refusal {
     LAURELSNAP_PRECONDITION = 18,      /* a precondition of the step's operator does not hold */
     LAURELSNAP_BOUND = 19,             /* the cost so far, the step's included, is above the bound */
     LAURELSNAP_STATE = 20,             /* the questioned state has a wrong number of values, or one out of range */
-    LAURELSNAP_NODE_LISTS = 21         /* the questioned node or level lists are no diagrams of the task */
+    LAURELSNAP_NODE_LISTS = 21,        /* the questioned node or level lists are no diagrams of the task */
+    LAURELSNAP_OUTPUT_LIST = 22        /* the output list is shorter than the file to be written */
 };
 
 /* The file check of the `length` bytes at `file`. */
 struct laurelsnap_answer laurelsnap_check(const uint8_t *file, size_t length);
+
+/* The writer: puts the canonical file of the task in the `file_length` bytes at `file` at the front of the output list, the `out_length`
+   bytes at `out`, and leaves the bytes past it. The canonical file has the variables, operators and terms in this order without gaps, so
+   files that differ only in gaps and section order have the same one. It is never longer than `file_length`. */
+struct laurelsnap_answer laurelsnap_write(const uint8_t *file, size_t file_length, uint8_t *out, size_t out_length);
 
 /* The walk of the plan of `plan_length` bytes at `plan` over the task in the `file_length` bytes at `file`. */
 struct laurelsnap_answer laurelsnap_walk(const uint8_t *file, size_t file_length, const uint8_t *plan, size_t plan_length);
@@ -80,6 +90,9 @@ static inline int laurelsnap_ok(struct laurelsnap_answer answer) { return answer
 
 /* Of 7, 9 and 10: the record's number. */
 static inline uint64_t laurelsnap_record(struct laurelsnap_answer answer) { return answer.first; }
+
+/* Of a file that was written: its length. */
+static inline uint64_t laurelsnap_length(struct laurelsnap_answer answer) { return answer.first; }
 
 /* Of 17, 18 and 19: the step's number. */
 static inline uint64_t laurelsnap_step(struct laurelsnap_answer answer) { return answer.first; }

@@ -19,6 +19,7 @@ pub struct Report {
 #[rustfmt::skip]
 extern "C" {
     pub fn laurelsnap_check(file: *const u8, length: usize) -> Answer;
+    pub fn laurelsnap_write(file: *const u8, file_length: usize, out: *mut u8, out_length: usize) -> Answer;
     pub fn laurelsnap_walk(file: *const u8, file_length: usize, plan: *const u8, plan_length: usize) -> Answer;
 
     pub fn laurelsnap_search(

@@ -38,6 +38,7 @@ impl std::fmt::Display for Refusal {
             19 => "the cost so far is above the bound",
             20 => "the state has a wrong number of values, or one out of range",
             21 => "the lists are no diagrams of the task",
+            22 => "the output list is too short",
             _ => "unknown cause",
         };
         write!(f, "refused {} {}: {cause}", self.number, self.value)
@@ -65,6 +66,23 @@ fn values(answer: ffi::Answer) -> Result<(u64, u64), Refusal> {
 pub fn check(file: &[u8]) -> Result<(), Refusal> {
     // SAFETY: the pointer and length are those of a slice, which is only read.
     values(unsafe { ffi::laurelsnap_check(file.as_ptr(), file.len()) }).map(|_| ())
+}
+
+/// The writer (refusals 1 to 10 and 22): puts the task's canonical file at the front of the list and gives its length. The bytes past it stay,
+/// and after a refusal the whole list does. The canonical file has the variables, operators and terms in this order without gaps, so files
+/// that differ only in gaps and section order have the same one.
+pub fn write(file: &[u8], out: &mut [u8]) -> Result<usize, Refusal> {
+    // SAFETY: the pointers and lengths are those of two slices, of which one is only read and the other lent for the call.
+    values(unsafe { ffi::laurelsnap_write(file.as_ptr(), file.len(), out.as_mut_ptr(), out.len()) })
+        .map(|(length, _)| length as usize)
+}
+
+/// The task's canonical file as a vector (refusals 1 to 10). It is never longer than the file given.
+pub fn canonical(file: &[u8]) -> Result<Vec<u8>, Refusal> {
+    let mut out = vec![0; file.len()];
+    let length = write(file, &mut out)?;
+    out.truncate(length);
+    Ok(out)
 }
 
 /// The walk of a plan (refusals 1 to 10 and 17 to 19).
