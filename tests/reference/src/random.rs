@@ -151,22 +151,30 @@ pub fn large_task(dice: &mut Dice) -> Task {
     Task { sizes, start, operators, terms, bound: dice.below(4096) as u64 }
 }
 
-/// A file of the task: its sections in any order, now and then with unread bytes between them.
+/// Up to so many unread bytes behind the body.
+fn gap(dice: &mut Dice, most: usize, body: &mut Vec<u8>) {
+    let count = dice.between(0, most);
+    body.extend((0..count).map(|_| dice.number() as u8));
+}
+
+/// A file of the task: its sections in any order, now and then with unread bytes around them; an empty one begins anywhere.
 pub fn file(dice: &mut Dice, task: &Task) -> Vec<u8> {
     let parts = sections(task);
     let mut order = [0, 1, 2];
     order.swap(0, dice.below(3));
     order.swap(1, dice.between(1, 2));
-    let gaps = dice.one_in(2);
+    let most = dice.pick(&[0, 0, 7, 7, 300]);
     let mut body = Vec::new();
     let mut offsets = [0; 3];
     for k in order {
-        if gaps {
-            let gap = dice.below(8);
-            body.extend((0..gap).map(|_| dice.number() as u8));
-        }
+        gap(dice, most, &mut body);
         offsets[k] = HEADER + body.len();
         body.extend(&parts[k]);
+    }
+    gap(dice, most, &mut body);
+    for k in (0..3).filter(|&k| parts[k].is_empty()) {
+        let inside = dice.below(body.len());
+        offsets[k] = HEADER + dice.pick(&[0, inside, inside, body.len()]);
     }
     let mut out = header(task, offsets, HEADER + body.len());
     out.extend(body);
