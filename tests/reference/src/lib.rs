@@ -1,5 +1,5 @@
 //! The planner's definitions once more, straight from its scope document and without a thought for speed: the file check,
-//! the walk, the best plan by a search over single states, the sets made with their node count, and the question.
+//! the writer, the walk, the best plan by a search over single states, the sets made with their node count, and the question.
 //! It shares nothing with the proved library, so that each can be tested against the other.
 
 pub mod diagrams;
@@ -11,3 +11,4 @@ pub mod sets;
 pub mod task;
 pub mod utility;
 pub mod walk;
+pub mod write;

@@ -1,15 +1,16 @@
-//! The reference planner as a program: listings to compare with osp-list's, the listings of faulty planners, random files.
+//! The reference planner as a program: listings to compare with osp-list's, the listings of faulty planners, canonical and random files.
 
 use reference::plan::{best, Fault};
 use reference::random::{file, task, Dice};
 use reference::search::{search, Lengths, OSP_LIST};
-use reference::{task as bpt, walk::walk};
+use reference::{task as bpt, walk::walk, write::canonical};
 use std::io::Write;
 use std::process::ExitCode;
 
 const USAGE: &str = "reference plan FILE [ENTRIES]    the listing, with osp-list's lists or so many node and utility entries
 reference faults FILE            the best plan, and what the planners with the four named faults hand over
 reference walk FILE OPERATOR...  cost and utility of a plan, or its refusal
+reference write FILE             the canonical file on standard output
 reference random SEED            a random task file on standard output";
 
 fn read(name: &str) -> Result<Vec<u8>, String> {
@@ -30,8 +31,13 @@ fn plan(name: &str, entries: Option<&String>) -> Result<String, String> {
     })
 }
 
+/// A refusal where the command has nothing to print.
+fn told(refusal: bpt::Refusal) -> String {
+    format!("refused {} {}", refusal.number, refusal.value)
+}
+
 fn faults(name: &str) -> Result<String, String> {
-    let task = bpt::check(&read(name)?).map_err(|r| format!("refused {} {}", r.number, r.value))?;
+    let task = bpt::check(&read(name)?).map_err(told)?;
     let planners = [
         ("best plan", Fault::None),
         ("closed when generated", Fault::ClosedWhenGenerated),
@@ -65,6 +71,7 @@ fn run(words: &[String]) -> Result<Vec<u8>, String> {
         [c, name, n] if c == "plan" => plan(name, Some(n)).map(String::into_bytes),
         [c, name] if c == "faults" => faults(name).map(String::into_bytes),
         [c, name, steps @ ..] if c == "walk" => walked(name, steps).map(String::into_bytes),
+        [c, name] if c == "write" => canonical(&read(name)?).map_err(told),
         [c, seed] if c == "random" => {
             let mut dice = Dice(seed.parse().map_err(|_| format!("'{seed}' is no number"))?);
             let random = task(&mut dice);

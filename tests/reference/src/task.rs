@@ -1,4 +1,4 @@
-//! Tasks, their states and operators, and the BPT1 file: check (refusals 1 to 10) and writer.
+//! Tasks, their states and operators, and the BPT1 file: check (refusals 1 to 10) and encoding.
 
 pub const LETTERS: [u8; 4] = *b"BPT1";
 pub const HEADER: usize = 28;
@@ -116,7 +116,8 @@ impl Task {
     }
 }
 
-fn number(file: &[u8], at: usize, bytes: usize) -> usize {
+/// A number of so many bytes, low byte first.
+pub fn number(file: &[u8], at: usize, bytes: usize) -> usize {
     (0..bytes).map(|k| (file[at + k] as usize) << (8 * k)).sum()
 }
 
