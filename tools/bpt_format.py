@@ -1,13 +1,15 @@
 """Planning tasks as text that people write and as BPT1 files that the planner reads.
 
 A Task is what both forms carry. `parse` and `write_text` are the text form, `encode` and `decode` the file form;
-`decode` refuses what the planner's file check refuses, with the planner's own numbers (1 to 10).
+`decode` refuses what the planner's file check refuses, with the planner's own numbers (1 to 10). `encode` writes the
+canonical file, which is what the planner's writer makes of every file that carries the task.
 """
 
 import re
 from dataclasses import dataclass, field
 
 LETTERS = b"BPT1"
+KINDS = ("variable", "operator", "term")  # of records, in the canonical file's order
 HEADER = 28
 FILE_MOST = 16384
 VARIABLE_BYTES, OPERATOR_BYTES, TERM_BYTES = 2, 36, 12
@@ -271,19 +273,39 @@ def fact_bytes(facts, places):
     return used + bytes(2 * (places - len(facts)))
 
 
-def encode(task):
-    """The BPT1 file of a task: variables, operators, terms, without gaps."""
-    variables = b"".join(bytes((len(v.values), v.start)) for v in task.variables)
-    operators = b"".join(
+def records(task):
+    """A task's variable, operator and term records, three lists."""
+    variables = [bytes((len(v.values), v.start)) for v in task.variables]
+    operators = [
         small(o.cost) + bytes((len(o.pre), len(o.eff)))
-        + fact_bytes(o.pre, OPERATOR_FACTS) + fact_bytes(o.eff, OPERATOR_FACTS) for o in task.operators)
-    terms = b"".join(
-        small(t.weight) + bytes((len(t.facts), 0)) + fact_bytes(t.facts, TERM_FACTS) for t in task.terms)
+        + fact_bytes(o.pre, OPERATOR_FACTS) + fact_bytes(o.eff, OPERATOR_FACTS) for o in task.operators]
+    terms = [small(t.weight) + bytes((len(t.facts), 0)) + fact_bytes(t.facts, TERM_FACTS) for t in task.terms]
+    return variables, operators, terms
+
+
+def encode(task):
+    """The canonical BPT1 file of a task: variables, operators, terms, without gaps."""
+    variables, operators, terms = (b"".join(section) for section in records(task))
     starts = [HEADER, HEADER + len(variables), HEADER + len(variables) + len(operators)]
     length = starts[2] + len(terms)
     counts = [len(task.variables), len(task.operators), len(task.terms), task.bound]
     return (LETTERS + b"".join(small(n) for n in counts) + b"".join(small(n, 4) for n in starts + [length])
             + variables + operators + terms)
+
+
+def difference(one, other):
+    """What differs first in the canonical files of two tasks, a count, the bound or a record; None if nothing does."""
+    pairs = list(zip(KINDS, records(one), records(other)))
+    for kind, ours, theirs in pairs:
+        if len(ours) != len(theirs):
+            return f"{count(len(ours), kind)} and {len(theirs)}"
+    if one.bound != other.bound:
+        return f"bound {one.bound} and {other.bound}"
+    for kind, ours, theirs in pairs:
+        for k, (our, their) in enumerate(zip(ours, theirs)):
+            if our != their:
+                return f"{kind} {k}"
+    return None
 
 
 # ---- file to task
@@ -315,18 +337,17 @@ def check_header(file):
 
 def check_sections(file, counts):
     """Refusal 6; where the three sections begin."""
-    kinds = ("variable", "operator", "term")
     widths = (VARIABLE_BYTES, OPERATOR_BYTES, TERM_BYTES)
     starts = [number_at(file, at, 4) for at in (12, 16, 20)]
     ends = [start + n * w for start, n, w in zip(starts, counts, widths)]
-    for kind, start, end in zip(kinds, starts, ends):
+    for kind, start, end in zip(KINDS, starts, ends):
         if start < HEADER:
             raise Refused(6, 0, f"the {kind} section begins at byte {start}, inside the header")
         if end > len(file):
             raise Refused(6, 0, f"the {kind} section ends at byte {end}, past the file")
     for a, b in ((0, 1), (0, 2), (1, 2)):
         if counts[a] and counts[b] and starts[a] < ends[b] and starts[b] < ends[a]:
-            raise Refused(6, 0, f"the {kinds[a]} and {kinds[b]} sections overlap")
+            raise Refused(6, 0, f"the {KINDS[a]} and {KINDS[b]} sections overlap")
     return starts
 
 
@@ -376,25 +397,30 @@ def decode(file):
     counts, bound = check_header(file)
     starts = check_sections(file, counts)
 
-    def records(kind, width, refusal, read):
+    def read_section(kind, width, refusal, read):
         out = []
         for k in range(counts[kind]):
             at = starts[kind] + k * width
             try:
                 out.append(read(k, file[at:at + width]))
             except Fault as fault:
-                raise Refused(refusal, k, f"{('variable', 'operator', 'term')[kind]} {k}: {fault}") from None
+                raise Refused(refusal, k, f"{KINDS[kind]} {k}: {fault}") from None
         return out
 
-    pairs = records(0, VARIABLE_BYTES, 7, lambda k, record: read_variable(record))
+    pairs = read_section(0, VARIABLE_BYTES, 7, lambda k, record: read_variable(record))
     sizes = [size for size, _ in pairs]
     total = sum(width(size) for size in sizes)
     if total > BITS_MOST:
         raise Refused(8, 0, f"the variables take {total} bits, at most {BITS_MOST} are allowed")
-    operators = records(1, OPERATOR_BYTES, 9, lambda k, record: read_operator(sizes, k, record))
-    terms = records(2, TERM_BYTES, 10, lambda k, record: read_term(sizes, k, record))
+    operators = read_section(1, OPERATOR_BYTES, 9, lambda k, record: read_operator(sizes, k, record))
+    terms = read_section(2, TERM_BYTES, 10, lambda k, record: read_term(sizes, k, record))
     variables = [Variable(f"v{k}", [str(x) for x in range(size)], start) for k, (size, start) in enumerate(pairs)]
     return Task(bound, variables, operators, terms)
+
+
+def canonical(file):
+    """The one file of the task that a file carries; raises Refused as the file check does."""
+    return encode(decode(file))
 
 
 # ---- listings

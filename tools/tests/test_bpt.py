@@ -48,6 +48,25 @@ def random_task(dice):
     return bpt.Task(dice.randint(0, 4095), variables, operators, terms)
 
 
+def other_file(dice, file):
+    """Another file of the same task: sections in any order, unread bytes around them, empty sections anywhere."""
+    counts = [bpt.number_at(file, at) for at in (4, 6, 8)]
+    widths = (bpt.VARIABLE_BYTES, bpt.OPERATOR_BYTES, bpt.TERM_BYTES)
+    starts = [bpt.number_at(file, at, 4) for at in (12, 16, 20)]
+    sections = [file[start:start + n * w] for start, n, w in zip(starts, counts, widths)]
+    body = b""
+    for k in dice.sample(range(3), 3):
+        body += dice.randbytes(dice.randint(0, 9))
+        starts[k] = bpt.HEADER + len(body)
+        body += sections[k]
+    body += dice.randbytes(dice.randint(0, 9))
+    for k in range(3):
+        if not sections[k]:
+            starts[k] = bpt.HEADER + dice.randint(0, len(body))
+    numbers = starts + [bpt.HEADER + len(body)]
+    return file[:12] + b"".join(bpt.small(n, 4) for n in numbers) + body
+
+
 class Text(unittest.TestCase):
     def faults(self, text):
         with self.assertRaises(bpt.TextErrors) as caught:
@@ -197,6 +216,68 @@ class File(unittest.TestCase):
                 self.assertIn(refused.number, range(1, 11))
 
 
+class Canonical(unittest.TestCase):
+    def test_encode_writes_the_canonical_file(self):
+        dice = random.Random(3)
+        others = 0
+        for _ in range(300):
+            file = bpt.encode(random_task(dice))
+            self.assertEqual(bpt.canonical(file), file)
+            for _ in range(3):
+                other = other_file(dice, file)
+                others += other != file
+                self.assertEqual(bpt.canonical(other), file)
+                self.assertEqual(bpt.encode(bpt.decode(other)), file)
+        self.assertGreater(others, 800)
+
+    def test_bytes(self):
+        front = "42505431" "0100" "0100" "0100" "0500"
+        variable, term = "0301", "0700" "0100" "0002" + "0000" * 3
+        operator = "0200" "0101" "0000" + "0000" * 7 + "0002" + "0000" * 7
+        other = front + "2b000000" "31000000" "1d000000" "56000000" "ff" + term + "eeee" + variable + "dddddddd" + operator + "cc"
+        file = front + "1c000000" "1e000000" "42000000" "4e000000" + variable + operator + term
+        self.assertEqual(bpt.canonical(bytes.fromhex(other)).hex(), file)
+
+    def test_an_empty_section_begins_where_it_would_stand(self):
+        no_terms = "42505431" "0100" "0000" "0000" "0000" "{}" "1e000000" "0200"
+        other = no_terms.format("1c000000" "1c000000" "1d000000")
+        self.assertEqual(bpt.canonical(bytes.fromhex(other)).hex(), no_terms.format("1c000000" "1e000000" "1e000000"))
+        no_operators = "42505431" "0100" "0000" "0100" "0000" "{}" "2a000000" "0200" "0100" "0000" + "0000" * 4
+        other = no_operators.format("1c000000" "2a000000" "1e000000")
+        self.assertEqual(bpt.canonical(bytes.fromhex(other)).hex(), no_operators.format("1c000000" "1e000000" "1e000000"))
+
+    def test_refused(self):
+        file = bytearray(bpt.encode(bpt.parse(P)))
+        file[32 + 36] = 0
+        with self.assertRaises(bpt.Refused) as caught:
+            bpt.canonical(bytes(file))
+        self.assertEqual((caught.exception.number, caught.exception.value), (9, 1))
+
+    def test_difference(self):
+        for old, new, told in [
+            ("# document", "# another remark, document", None),
+            ("operator b", "operator b2", None),
+            ("q=1 p=1", "p=1 q=1", None),
+            ("variable q: 0* 1", "variable q: 0* 1\nvariable r: 0* 1", "2 variables and 3"),
+            ("operator c cost 1: p=1 q=0 -> q=1\n", "", "3 operators and 2"),
+            ("term first weight 2: p=1\nterm both weight 1: q=1 p=1\n", "", "2 terms and 0"),
+            ("bound 1", "bound 2\nterm more weight 0:", "2 terms and 3"),
+            ("bound 1", "bound 2", "bound 1 and 2"),
+            ("variable q: 0* 1", "variable q: 0 1*", "variable 1"),
+            ("variable q: 0* 1", "variable q: 0* 1 2", "variable 1"),
+            ("operator a cost 1", "operator a cost 2", "operator 0"),
+            ("p=1 q=0 -> q=1", "p=1 -> q=1", "operator 2"),
+            ("p=1 q=0 -> q=1", "p=1 q=0 -> q=0", "operator 2"),
+            ("term both weight 1", "term both weight 2", "term 1"),
+            ("q=1 p=1", "q=1", "term 1"),
+        ]:
+            with self.subTest(new):
+                self.assertIn(old, P)
+                one, other = bpt.parse(P), bpt.parse(P.replace(old, new))
+                self.assertEqual(bpt.difference(one, other), told)
+                self.assertEqual(bpt.encode(one) == bpt.encode(other), told is None)
+
+
 class Command(unittest.TestCase):
     def setUp(self):
         folder = tempfile.TemporaryDirectory()
@@ -237,6 +318,67 @@ class Command(unittest.TestCase):
         (self.folder / "noise.task").write_bytes(b"bound 1\n\xff\n")
         self.assertIn("noise.task:2: this is not text", self.bpt("encode", "noise.task").stderr)
         self.assertEqual(self.bpt("walk").returncode, 2)
+
+    def test_canonical(self):
+        self.bpt("encode", "p.task")
+        file = (self.folder / "p.bpt").read_bytes()
+        other = other_file(random.Random(5), file)
+        self.assertNotEqual(other, file)
+        (self.folder / "other.bpt").write_bytes(other)
+        self.assertEqual(self.bpt("canonical", "other.bpt", "-o", "out.bpt").returncode, 0)
+        self.assertEqual((self.folder / "out.bpt").read_bytes(), file)
+        words = [sys.executable, TOOLS / "bpt", "canonical", "other.bpt"]
+        self.assertEqual(subprocess.check_output(words, cwd=self.folder), file)
+        self.assertEqual((self.folder / "other.bpt").read_bytes(), other)
+        (self.folder / "bad.bpt").write_bytes(other[:27])
+        refused = self.bpt("canonical", "bad.bpt", "-o", "bad-out.bpt")
+        self.assertEqual((refused.returncode, refused.stdout), (1, ""))
+        self.assertTrue(refused.stderr.startswith("bad.bpt: refused 1 0: "))
+        self.assertFalse((self.folder / "bad-out.bpt").exists())
+        self.assertEqual(self.bpt("canonical").returncode, 2)
+        self.assertEqual(self.bpt("canonical", "missing.bpt").returncode, 2)
+
+    def test_nothing_is_written_over_what_was_read(self):
+        self.bpt("encode", "p.task")
+        (self.folder / "link").symlink_to("p.bpt")
+        (self.folder / "text.bpt").write_text(P)
+        for words in [("encode", "p.task", "-o", "p.task"), ("encode", "text.bpt"), ("decode", "p.bpt", "-o", "p.bpt"),
+                      ("canonical", "p.bpt", "-o", "p.bpt"), ("canonical", "p.bpt", "-o", "link")]:
+            with self.subTest(words):
+                before = (self.folder / words[1]).read_bytes()
+                stopped = self.bpt(*words)
+                self.assertEqual(stopped.returncode, 2)
+                self.assertIn("written over", stopped.stderr)
+                self.assertEqual((self.folder / words[1]).read_bytes(), before)
+
+    def test_same(self):
+        self.bpt("encode", "p.task")
+        (self.folder / "other.bpt").write_bytes(other_file(random.Random(6), (self.folder / "p.bpt").read_bytes()))
+        (self.folder / "p2.task").write_text(P.replace("bound 1", "bound 2"))
+        self.bpt("encode", "p2.task")
+        (self.folder / "bad.bpt").write_bytes(b"BPT1")
+        (self.folder / "bad.task").write_text("bound x\nvariable p: 0* 1\n")
+        for one, other, status, line in [
+            ("p.bpt", "p.bpt", 0, "p.bpt and p.bpt carry one task\n"),
+            ("p.bpt", "other.bpt", 0, "p.bpt and other.bpt carry one task\n"),
+            ("other.bpt", "p.task", 0, "other.bpt and p.task carry one task\n"),
+            ("p.task", "p2.task", 1, "p.task and p2.task carry different tasks: bound 1 and 2\n"),
+            ("p2.bpt", "other.bpt", 1, "p2.bpt and other.bpt carry different tasks: bound 2 and 1\n"),
+        ]:
+            with self.subTest((one, other)):
+                told = self.bpt("same", one, other)
+                self.assertEqual((told.returncode, told.stdout, told.stderr), (status, line, ""))
+        for words, status, message in [
+            (("p.bpt", "bad.bpt"), 1, "bad.bpt: refused 1 0: "),
+            (("bad.task", "p.bpt"), 1, "bad.task:1: "),
+            (("p.bpt", "missing.bpt"), 2, "missing.bpt: "),
+            (("p.bpt",), 2, "Tasks for the planner"),
+            (("p.bpt", "p.bpt", "p.bpt"), 2, "Tasks for the planner"),
+        ]:
+            with self.subTest(words):
+                stopped = self.bpt("same", *words)
+                self.assertEqual((stopped.returncode, stopped.stdout), (status, ""))
+                self.assertTrue(stopped.stderr.startswith(message), stopped.stderr)
 
     def test_explain(self):
         shown = self.bpt("explain", "p.task", stdin=LISTING)

@@ -16,7 +16,9 @@ class Examples(unittest.TestCase):
         self.assertGreaterEqual(len(texts), 7)
         for text in texts:
             with self.subTest(text.name):
-                self.assertEqual(bpt.encode(bpt.parse(text.read_text())), text.with_suffix(".bpt").read_bytes())
+                file = text.with_suffix(".bpt").read_bytes()
+                self.assertEqual(bpt.encode(bpt.parse(text.read_text())), file)
+                self.assertEqual(bpt.canonical(file), file)
 
     def test_the_stored_listing_is_whole(self):
         task = bpt.parse((EXAMPLES / "calibration.task").read_text())
