@@ -1,11 +1,11 @@
-//! One search or question, asked of the proved library and of the reference planner, and compared in full.
+//! One search, question or canonical file, asked of the proved library and of the reference planner, and compared in full.
 //!
 //! A search is compared in its figures, the whole plan, the states of every level with those of the single-state search, the node
 //! entries, and in what the lists keep. The first difference is told with both answers.
 
 pub mod features;
 
-use laurelsnap::{question, search, Lists, Place, Refusal};
+use laurelsnap::{question, search, write, Lists, Place, Refusal};
 use reference::plan::Reached;
 use reference::question::Answer;
 use reference::random::Dice;
@@ -162,4 +162,14 @@ pub fn compare_question(file: &[u8], lists: &Lists, nodes: u64, state: &[u8]) ->
     let expected = reference::question::question(file, &seen, nodes, state);
     same("question", question(file, lists, nodes, state), expected.map(place).map_err(refusal))?;
     Ok(expected.map_or_else(|refusal| refusal.number, |_| 0))
+}
+
+/// One file written into the first bytes of a list, so many of them, and every byte of the whole list compared: the length that both
+/// gave, or the refusal.
+pub fn compare_write(file: &[u8], list: &[u8], length: usize) -> Result<Result<usize, Refusal>, Difference> {
+    let (mut written, mut expected) = (list.to_vec(), list.to_vec());
+    let answer = reference::write::write(file, &mut expected[..length]).map_err(refusal);
+    same("write", write(file, &mut written[..length]), answer)?;
+    same("the output list", written, expected)?;
+    Ok(answer)
 }
