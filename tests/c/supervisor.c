@@ -1,6 +1,7 @@
 /*
  * The static library as the bench supervisor calls it: the stand cases of the file check and the walk, searches in lists of the greatest
- * lengths, then many made-up files and plans, compared with a plain check and walk written here from document 01.
+ * lengths, cases of the writer, then many made-up files and plans, compared with a plain check, walk and writer written here from the
+ * documents.
  */
 #include "laurelsnap.h"
 
@@ -25,10 +26,25 @@ static void same(const char *what, Answer got, uint64_t number, uint64_t first, 
         (unsigned long long)got.second, (unsigned long long)number, (unsigned long long)first, (unsigned long long)second);
 }
 
-/* ---- the plain check and walk */
+static void same_bytes(const char *what, const uint8_t *got, const uint8_t *expected, size_t count)
+{
+    compared++;
+    if (memcmp(got, expected, count) == 0)
+        return;
+    faults++;
+    printf("%s: other bytes than expected\n", what);
+}
+
+/* ---- the plain check, walk and writer */
 
 static size_t le16(const uint8_t *at) { return (size_t)at[0] + 256u * (size_t)at[1]; }
 static size_t le32(const uint8_t *at) { return le16(at) + 65536u * le16(at + 2); }
+
+static void store(uint8_t *at, size_t bytes, size_t x)
+{
+    for (size_t k = 0; k < bytes; k++, x /= 256)
+        at[k] = (uint8_t)(x % 256);
+}
 
 typedef struct {
     size_t variables, operators, terms, bound;
@@ -147,22 +163,34 @@ static Answer plain_walk(const uint8_t *file, size_t length, const uint8_t *plan
     return answer(0, cost, utility);
 }
 
+static Answer plain_write(const uint8_t *file, size_t length, uint8_t *out, size_t out_length)
+{
+    Task t;
+    Answer a = plain_check(file, length, &t);
+    if (a.number != 0)
+        return a;
+    const uint8_t *section[3] = { t.variable, t.operator_, t.term };
+    size_t bytes[3] = { 2 * t.variables, 36 * t.operators, 12 * t.terms };
+    if (out_length < 28 + bytes[0] + bytes[1] + bytes[2])
+        return answer(22, 0, 0);
+    memcpy(out, file, 12);
+    size_t at = 28;
+    for (int i = 0; i < 3; i++) {
+        store(out + 12 + 4 * i, 4, at);
+        memcpy(out + at, section[i], bytes[i]);
+        at += bytes[i];
+    }
+    store(out + 24, 4, at);
+    return answer(0, at, 0);
+}
+
 /* ---- files made in memory: header, variables, operators, terms, one behind the other */
 
 static uint8_t file[MOST_BYTES];
 static size_t length;
 
-static void put16(size_t at, size_t x)
-{
-    file[at] = (uint8_t)(x % 256);
-    file[at + 1] = (uint8_t)(x / 256 % 256);
-}
-
-static void put32(size_t at, size_t x)
-{
-    put16(at, x);
-    put16(at + 2, x / 65536);
-}
+static void put16(size_t at, size_t x) { store(file + at, 2, x); }
+static void put32(size_t at, size_t x) { store(file + at, 4, x); }
 
 static size_t operator_at(size_t o) { return le32(file + 16) + 36 * o; }
 static size_t term_at(size_t n) { return le32(file + 20) + 12 * n; }
@@ -336,7 +364,7 @@ static void times(void)
     takes("an operator that costs more than the bound", 4095, 4094, 0, 0, 4094);
 }
 
-/* ---- made-up files and plans */
+/* ---- random numbers */
 
 static uint64_t seed = 1;
 
@@ -345,6 +373,144 @@ static size_t below(size_t n)
     seed = seed * 6364136223846793005u + 1442695040888963407u;
     return (size_t)(seed >> 33) % n;
 }
+
+/* ---- the writer */
+
+/* The file written into a list of this length. The list has noise in it and around it, and every byte is compared with the plain writer's. */
+static void compare_write(const char *what, size_t out_length)
+{
+    enum { AROUND = 16 };
+    size_t count = AROUND + out_length + AROUND;
+    uint8_t *got = malloc(count), *expected = malloc(count);
+    if (got == NULL || expected == NULL)
+        exit(EXIT_FAILURE);
+    for (size_t k = 0; k < count; k++)
+        got[k] = expected[k] = (uint8_t)below(256);
+    Answer plain = plain_write(file, length, expected + AROUND, out_length);
+    same(what, laurelsnap_write(file, length, got + AROUND, out_length), plain.number, plain.first, plain.second);
+    same_bytes(what, got, expected, count);
+    free(got);
+    free(expected);
+}
+
+/* The file written into lists of no bytes, one too few, just enough and more. */
+static void compare_writes(const char *what)
+{
+    size_t enough = length;
+    if (laurelsnap_ok(laurelsnap_check(file, length)))
+        enough = 28 + 2 * le16(file + 4) + 36 * le16(file + 6) + 12 * le16(file + 8);
+    compare_write(what, 0);
+    compare_write(what, enough > 0 ? enough - 1 : 0);
+    compare_write(what, enough);
+    compare_write(what, enough + 1 + below(60));
+}
+
+static void unread_bytes(void)
+{
+    for (size_t count = below(6); count > 0; count--)
+        file[length++] = (uint8_t)below(256);
+}
+
+/* Makes another file of the same task: sections in any order, unread bytes around them, empty sections anywhere. */
+static void rearrange(void)
+{
+    static uint8_t from[MOST_BYTES];
+    memcpy(from, file, length);
+    size_t bytes[3] = { 2 * le16(from + 4), 36 * le16(from + 6), 12 * le16(from + 8) };
+    size_t first = below(3), second = (first + 1 + below(2)) % 3;
+    size_t order[3] = { first, second, 3 - first - second };
+    length = 28;
+    for (int i = 0; i < 3; i++) {
+        size_t k = order[i];
+        unread_bytes();
+        put32(12 + 4 * k, length);
+        memcpy(file + length, from + le32(from + 12 + 4 * k), bytes[k]);
+        length += bytes[k];
+    }
+    unread_bytes();
+    for (size_t k = 0; k < 3; k++)
+        if (bytes[k] == 0)
+            put32(12 + 4 * k, 28 + below(length - 28 + 1));
+    put32(24, length);
+}
+
+/* A file as it is made is canonical: it is written as it is, and rearranged it is written as it was made. */
+static void compare_rearranged(const char *what)
+{
+    static uint8_t made[MOST_BYTES], out[MOST_BYTES];
+    size_t made_length = length;
+    memcpy(made, file, length);
+    compare_writes(what);
+    rearrange();
+    compare_writes(what);
+    same(what, laurelsnap_write(file, length, out, sizeof out), 0, made_length, 0);
+    same_bytes(what, out, made, made_length);
+    memcpy(file, made, made_length);
+    length = made_length;
+}
+
+/* The answer where the file is written into a list of this length. */
+static void writes(const char *what, size_t out_length, uint64_t number, uint64_t first)
+{
+    static uint8_t out[MOST_BYTES];
+    same(what, laurelsnap_write(file, length, out, out_length), number, first, 0);
+    compare_writes(what);
+}
+
+/* The three offsets and the length in the written file. */
+static void written_places(const char *what, size_t variables, size_t operators, size_t terms, size_t written)
+{
+    static uint8_t out[MOST_BYTES];
+    Answer a = laurelsnap_write(file, length, out, sizeof out);
+    same(what, answer(a.number, laurelsnap_length(a), le32(out + 24)), 0, written, written);
+    same(what, answer(le32(out + 12), le32(out + 16), le32(out + 20)), variables, operators, terms);
+}
+
+static void writer_cases(void)
+{
+    make_P(1);
+    writes("P, written", 164, 0, 164);
+    writes("P, one byte too few", 163, 22, 0);
+    written_places("P, its places", 28, 32, 140, 164);
+    compare_rearranged("P");
+    make_Q(5);
+    written_places("Q, its places", 28, 30, 174, 186);
+    compare_rearranged("Q");
+    put16(operator_at(2), 0);
+    writes("Q with cost 0, no list", 0, 9, 2);
+    make(1, 0, 0, 0);
+    compare_rearranged("no operators and no terms");
+    put32(16, 29);
+    put32(20, 28);
+    written_places("no operators and no terms, their places", 28, 30, 30, 30);
+    make(2, 0, 1, 0);
+    compare_rearranged("no operators");
+    put32(16, length);
+    written_places("no operators, their place", 28, 32, 32, 44);
+    make(2, 1, 0, 0);
+    compare_rearranged("no terms");
+    put32(20, 40);
+    written_places("no terms, their place", 28, 32, 68, 68);
+    make(32, 256, 256, 4095);
+    for (unsigned v = 24; v < 32; v++) {
+        pre(255, v, 1);
+        eff(255, v, 1);
+        if (v >= 28)
+            asks(255, v, 1);
+    }
+    written_places("the most records", 28, 92, 9308, 12380);
+    compare_rearranged("the most records");
+    length = 16384;
+    put32(24, length);
+    writes("16,384 bytes", 12380, 0, 12380);
+    length = 16385;
+    put32(24, length);
+    writes("16,385 bytes", 0, 2, 0);
+    length = 0;
+    writes("no bytes", 0, 1, 0);
+}
+
+/* ---- made-up files and plans */
 
 static void some_facts(size_t at, size_t count_at, size_t places, size_t variables)
 {
@@ -401,10 +567,14 @@ static void made_up(void)
         make_any();
         compare_check("a file");
         compare_walks("a walk");
+        compare_rearranged("a written file");
+        if (below(2))
+            rearrange();
         for (int change = 0; change < 4; change++) {
             size_t at = below(2) ? below(28) : below(length);
             file[at] = (uint8_t)below(below(2) ? 4 : 256);
             compare_check("a changed file");
+            compare_writes("a changed file, written");
         }
         compare_walks("a walk over a changed file");
     }
@@ -417,6 +587,7 @@ static void made_up(void)
             put32(24, length);
         }
         compare_check("any bytes");
+        compare_writes("any bytes, written");
     }
 }
 
@@ -425,6 +596,7 @@ int main(void)
     stand_cases();
     long_lists();
     times();
+    writer_cases();
     made_up();
     printf("the supervisor's calls from C: %lu answers compared, %lu differ\n", compared, faults);
     return faults == 0 ? EXIT_SUCCESS : EXIT_FAILURE;
