@@ -79,7 +79,7 @@ struct laurelsnap_answer laurelsnap_check(const uint8_t *file, size_t length);
 
 /* The writer: puts the canonical file of the task in the `file_length` bytes at `file` at the front of the output list, the `out_length`
    bytes at `out`, and leaves the bytes past it. The canonical file has the variables, operators and terms in this order without gaps, so
-   files that differ only in gaps and section order have the same one. It is never longer than `file_length`. */
+   files that differ only in gaps and section order have the same one. It is never longer than `file_length`, nor than 12,380 bytes. */
 struct laurelsnap_answer laurelsnap_write(const uint8_t *file, size_t file_length, uint8_t *out, size_t out_length);
 
 /* The walk of the plan of `plan_length` bytes at `plan` over the task in the `file_length` bytes at `file`. */
