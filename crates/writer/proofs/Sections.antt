@@ -2,19 +2,19 @@
 use Prim.Native.Nat.{ℕ, zero, suc, _+_, _-_, _*_, _≤_, _<_}
 use mathlib.Core.Path.{_≡_, refl, sym, ap, _∙_}
 use mathlib.Core.Bool.{true}
-use mathlib.Core.Logic.{_⊎_, inl, inr, ⊎-elim}
 use mathlib.Core.List.{List, [], _∷_, _++_, flatten, append-assoc, append-nil}
 use native.Mathlib.Omega.{arith}
 use native.Mathlib.Nat.{add-zero, add-suc, add-assoc, le-refl, not-suc-le-zero, le-of-suc-le-suc}
 use lib.ListN.{length, getD, take, drop, length-append}
-use borrow.Author.Tests.{leb-true, eqb-true}
-use Rattle.planning.proofs.Guards.{and-both, or-either}
+use borrow.Author.Tests.{leb-true}
+use Rattle.planning.proofs.Guards.{and-both}
 use Rattle.task.specs.Limits.{headerBytes, variableBytes, operatorBytes, termBytes}
 use Rattle.task.specs.Bytes.{part}
 use Rattle.task.specs.Format.{variables, operators, terms, variablesAt, operatorsAt, termsAt, variableRecord, operatorRecord, termRecord}
-use Rattle.task.specs.Check.{sectionInside, apart, allInside, allApart, accepted}
+use Rattle.task.specs.Check.{sectionInside, allInside, allApart, accepted}
 use Rattle.task.proofs.Acceptance.{header-is, sound}
 use Rattle.writer.specs.Canonical.{sections, begin, sectionCount, mostWrittenBytes}
+use Rattle.writer.proofs.Room.{Disjoint, Between, total, apart-is, room}
 use Rattle.writer.proofs.Records.{Wide, length-records, section-is, section-wide}
 
 -- ---- parts of a list of sections
@@ -58,40 +58,6 @@ module _ (f : List ℕ) where
   begin-below k h =
       let e : k + (sectionCount - k) ≡ sectionCount = omega arith in
       rw e at (grows k (sectionCount - k) (omega arith))
-
--- ---- sections that lie apart take no more room than there is
-abbrev Apart : ℕ → ℕ → ℕ → ℕ → Type 0
-Apart a m b n = ((m ≡ 0) ⊎ (n ≡ 0)) ⊎ ((a + m ≤ b) ⊎ (b + n ≤ a))
-
-apart-is : (a m b n : ℕ) → apart a m b n ≡ true → Apart a m b n
-unfolding apart
-apart-is a m b n e =
-    ⊎-elim
-    (λ h. inl (inl (eqb-true m 0 h)))
-    (λ h. ⊎-elim (λ h. inl (inr (eqb-true n 0 h))) (λ h. inr (⊎-elim (λ h. inl (leb-true (a + m) b h)) (λ h. inr (leb-true (b + n) a h)) (or-either _ _ h))) (or-either _ _ h))
-    (or-either _ _ e)
-
-module _ (from to : ℕ) where
-  two-fit : (a m b n : ℕ) → from ≤ a → from ≤ b → a + m ≤ to → b + n ≤ to → Apart a m b n → from + m + n ≤ to
-  two-fit a m b n fa fb ta tb (inl (inl h)) = omega arith
-  two-fit a m b n fa fb ta tb (inl (inr h)) = omega arith
-  two-fit a m b n fa fb ta tb (inr (inl h)) = omega arith
-  two-fit a m b n fa fb ta tb (inr (inr h)) = omega arith
-
-  -- one is empty, or they stand in one of six orders
-  three-fit : (a m b n c k : ℕ) → from ≤ a → from ≤ b → from ≤ c → a + m ≤ to → b + n ≤ to → c + k ≤ to → Apart a m b n → Apart a m c k → Apart b n c k → from + m + n + k ≤ to
-  three-fit a m b n c k fa fb fc ta tb tc (inl (inl h)) q r = let l = two-fit b n c k fb fc tb tc r in omega arith
-  three-fit a m b n c k fa fb fc ta tb tc (inl (inr h)) q r = let l = two-fit a m c k fa fc ta tc q in omega arith
-  three-fit a m b n c k fa fb fc ta tb tc (inr p) (inl (inl h)) r = let l = two-fit b n c k fb fc tb tc r in omega arith
-  three-fit a m b n c k fa fb fc ta tb tc (inr p) (inl (inr h)) r = let l = two-fit a m b n fa fb ta tb (inr p) in omega arith
-  three-fit a m b n c k fa fb fc ta tb tc (inr p) (inr q) (inl (inl h)) = let l = two-fit a m c k fa fc ta tc (inr q) in omega arith
-  three-fit a m b n c k fa fb fc ta tb tc (inr p) (inr q) (inl (inr h)) = let l = two-fit a m b n fa fb ta tb (inr p) in omega arith
-  three-fit a m b n c k fa fb fc ta tb tc (inr (inl p)) (inr (inl q)) (inr (inl r)) = omega arith
-  three-fit a m b n c k fa fb fc ta tb tc (inr (inl p)) (inr (inl q)) (inr (inr r)) = omega arith
-  three-fit a m b n c k fa fb fc ta tb tc (inr (inl p)) (inr (inr q)) (inr r) = omega arith
-  three-fit a m b n c k fa fb fc ta tb tc (inr (inr p)) (inr (inl q)) (inr r) = omega arith
-  three-fit a m b n c k fa fb fc ta tb tc (inr (inr p)) (inr (inr q)) (inr (inl r)) = omega arith
-  three-fit a m b n c k fa fb fc ta tb tc (inr (inr p)) (inr (inr q)) (inr (inr r)) = omega arith
 
 -- ---- an accepted file's
 module _ (f : List ℕ) (a : accepted f ≡ true) where
@@ -164,7 +130,7 @@ module _ (f : List ℕ) (a : accepted f ≡ true) where
 
   -- no longer than the file
   pub end-short : begin f sectionCount ≤ length f
-  unfolding allApart
+  unfolding allApart total
   end-short =
       let b = begins in
       let v = variables-inside in
@@ -172,6 +138,8 @@ module _ (f : List ℕ) (a : accepted f ≡ true) where
       let t = terms-inside in
       let p = and-both _ _ (header-is f a .apart) in
       let q = and-both _ _ (p .1) in
-      let l = three-fit headerBytes (length f) (variablesAt f) (variableBytes * variables f) (operatorsAt f) (operatorBytes * operators f) (termsAt f) (termBytes * terms f)
-      (v .behind) (o .behind) (t .behind) (v .ends) (o .ends) (t .ends) (apart-is _ _ _ _ (p .0)) (apart-is _ _ _ _ (q .0)) (apart-is _ _ _ _ (q .1)) in
-      omega (arith, b .first, b .second, b .third, b .end, l)
+      let all : List (ℕ × ℕ) = (variablesAt f, variableBytes * variables f) ∷ (operatorsAt f, operatorBytes * operators f) ∷ (termsAt f, termBytes * terms f) ∷ [] in
+      let disjoint : Disjoint all = ((apart-is _ _ _ _ (p .0), (apart-is _ _ _ _ (q .0), tt)), ((apart-is _ _ _ _ (q .1), tt), (tt, tt))) in
+      let between : Between headerBytes (length f) all = ((v .behind, v .ends), ((o .behind, o .ends), ((t .behind, t .ends), tt))) in
+      let enough = room all headerBytes (length f) disjoint between (omega arith) in
+      omega (arith, b .first, b .second, b .third, b .end, enough)
