@@ -6,21 +6,20 @@ use mathlib.Core.List.{List}
 use mathlib.Core.Logic.{_⊎_, inl, inr}
 use native.Mathlib.Omega.{arith}
 use native.Mathlib.Nat.{eq-or-lt-of-le, zero-add, le-refl}
-use lib.ListN.{length, take, drop, length-drop}
-use lib.Seq.{length-take-le}
+use lib.ListN.{length, take, drop}
 use lib.Dec.{leb, ltb, eqb}
-use borrow.Author.Tests.{ltb-true, leb-true, eqb-true, eqb-false, lt-ltb, le-leb, ne-eqb}
+use borrow.Author.Tests.{ltb-true, leb-true, eqb-true, eqb-false, lt-ltb, ne-eqb}
 use Rattle.planning.specs.Connectives.{_or_, pick}
 use Rattle.planning.specs.Coding.{bits}
 use Rattle.planning.specs.Scan.{firstBad}
-use Rattle.task.specs.Limits.{operatorBytes, mostVariables, mostOperators, mostTerms, operatorPlaces, termPlaces, mostBits}
-use Rattle.task.specs.Bytes.{part}
-use Rattle.task.specs.Format.{variables, operators, terms, operatorsAt, operatorRecord, termRecord, factVariable, preconditions, effects, termCount, termFacts}
+use Rattle.task.specs.Limits.{headerBytes, variableBytes, operatorBytes, termBytes, mostVariables, mostOperators, mostTerms, operatorPlaces, termPlaces, mostBits}
+use Rattle.task.specs.Format.{variables, operators, terms, variablesAt, operatorsAt, termsAt, operatorRecord, termRecord, factVariable, preconditions, effects, termCount, termFacts}
 use Rattle.task.specs.Decode.{sizes}
 use Rattle.task.specs.Check.{countsRight, sectionInside, allInside, allApart, headerFault, namesVariable, hasValue, rises, usedRight, unusedRight, factRight, factsRight, variableRight, costRight, factCountsRight, preconditionsRight, effectsRight, operatorRecordRight, operatorRight, termCountsRight, termFactsRight, termRecordRight, termRight, firstBadVariable, firstBadOperator, firstBadTerm, checkTerms, checkOperators, checkBits, checkVariables, checkOf, accepted}
 use Rattle.task.specs.Sound.{RightVariable, RightFact, RightRow, RightOperator, RightTerm, Sound}
-use Rattle.planning.proofs.Guards.{pick-yes, and-both}
+use Rattle.planning.proofs.Guards.{and-both}
 use Rattle.planning.proofs.Scan.{every-at}
+use Rattle.task.proofs.Laws.{part-is, part-long}
 
 -- ---- a choice that came out as r, where one of the two cannot be r
 not-yes : {A : Type 0} (b : Bool) (x y r : A) → pick b x y ≡ r → (x ≡ r → ⊥) → (b ≡ false) × (y ≡ r)
@@ -79,6 +78,30 @@ header-passes f e = fault-zero (headerFault f) (checkVariables f) _ refl (eqb-tr
 
 pub header-is : (f : List ℕ) → accepted f ≡ true → RightHeader f
 header-is f e = header-sound f (header-passes f e)
+
+-- each of its sections begins behind the header and ends within the file
+pub record Inside (f : List ℕ) (at n : ℕ) : Type 0 where
+  pub behind : headerBytes ≤ at
+  pub ends : at + n ≤ length f
+
+inside-is : (f : List ℕ) (at n : ℕ) → sectionInside (length f) at n ≡ true → Inside f at n
+unfolding sectionInside
+inside-is f at n e =
+    let b = and-both _ _ e in
+    record { behind = leb-true headerBytes at (b .0); ends = leb-true (at + n) (length f) (b .1) }
+
+module _ (f : List ℕ) (a : accepted f ≡ true) where
+  pub variables-inside : Inside f (variablesAt f) (variableBytes * variables f)
+  unfolding allInside
+  variables-inside = inside-is f _ _ (and-both _ _ (header-is f a .inside) .0)
+
+  pub operators-inside : Inside f (operatorsAt f) (operatorBytes * operators f)
+  unfolding allInside
+  operators-inside = inside-is f _ _ (and-both _ _ (and-both _ _ (header-is f a .inside) .1) .0)
+
+  pub terms-inside : Inside f (termsAt f) (termBytes * terms f)
+  unfolding allInside
+  terms-inside = inside-is f _ _ (and-both _ _ (and-both _ _ (header-is f a .inside) .1) .1)
 
 record Passed (f : List ℕ) : Type 0 where
   pub header : RightHeader f
@@ -160,23 +183,19 @@ module _ (f : List ℕ) (a : accepted f ≡ true) where
       let s = and-both _ _ (r .1) in
       record { least = leb-true _ _ (r .0); most = leb-true _ _ (s .0); start = ltb-true _ _ (s .1) }
 
-  -- the operators' section ends within the file
-  operators-end : operatorsAt f + operatorBytes * operators f ≤ length f
-  unfolding allInside sectionInside
-  operators-end = leb-true _ _ (and-both _ _ (and-both _ _ (and-both _ _ (passed f a .header .inside) .1) .0) .1)
-
   module _ (o : ℕ) (l : o < operators f) where
     -- so an operator's record is whole: its bytes are those from its place in the file
     pub record-is : operatorRecord f o ≡ take operatorBytes (drop (operatorsAt f + operatorBytes * o) f)
-    unfolding operatorRecord part
+    unfolding operatorRecord
     record-is =
-        let ends = operators-end in
-        sym (pick-yes _ _ _ _ (le-leb (operatorsAt f + operatorBytes * o + operatorBytes) (length f) (omega arith)) refl)
+        let ends = operators-inside f a .ends in
+        part-is f (operatorsAt f + operatorBytes * o) operatorBytes (omega arith)
 
     record-long : length (operatorRecord f o) ≡ operatorBytes
+    unfolding operatorRecord
     record-long =
-        let ends = operators-end in
-        rw record-is (length-take-le operatorBytes (drop (operatorsAt f + operatorBytes * o) f) (rw (length-drop (operatorsAt f + operatorBytes * o) f) (omega arith)))
+        let ends = operators-inside f a .ends in
+        part-long f (operatorsAt f + operatorBytes * o) operatorBytes (omega arith)
 
     right-operator : operatorRecordRight f (operatorRecord f o) ≡ true
     unfolding operatorRight

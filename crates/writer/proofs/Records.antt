@@ -4,20 +4,11 @@ use mathlib.Core.Path.{_≡_, sym, ap, _∙_}
 use mathlib.Core.List.{List, _++_, flatten, append-assoc}
 use native.Mathlib.Omega.{arith}
 use native.Mathlib.Nat.{add-zero, zero-add, add-comm, add-assoc, mul-zero, mul-suc, mul-le-mul-left, not-suc-le-zero, le-of-suc-le-suc}
-use lib.ListN.{length, take, drop, length-append, length-drop}
-use lib.Seq.{length-take-le, take-at, drop-at, drop-drop, drop-append-add, take-add}
-use borrow.Author.Tests.{le-leb}
-use Rattle.planning.specs.Connectives.{pick}
+use lib.ListN.{length, take, drop, length-append}
+use lib.Seq.{take-at, drop-at, drop-drop, drop-append-add, take-add}
 use Rattle.planning.specs.Scan.{tab}
 use Rattle.task.specs.Bytes.{part}
-
--- a part that lies within the file
-pub part-is : (f : List ℕ) (at n : ℕ) → at + n ≤ length f → part f at n ≡ take n (drop at f)
-unfolding part pick
-part-is f at n h = rw (le-leb (at + n) (length f) h)
-
-pub part-long : (f : List ℕ) (at n : ℕ) → at + n ≤ length f → length (part f at n) ≡ n
-part-long f at n h = rw (part-is f at n h) (length-take-le n (drop at f) (rw (length-drop at f) (omega arith)))
+use Rattle.task.proofs.Laws.{part-is, part-long}
 
 module _ (bytes : ℕ → List ℕ) (w : ℕ) where
   -- each of the n records from i on has w bytes

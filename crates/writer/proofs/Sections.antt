@@ -6,13 +6,12 @@ use mathlib.Core.List.{List, [], _∷_, _++_, flatten, append-assoc, append-nil}
 use native.Mathlib.Omega.{arith}
 use native.Mathlib.Nat.{add-zero, add-suc, add-assoc, le-refl, not-suc-le-zero, le-of-suc-le-suc}
 use lib.ListN.{length, getD, take, drop, length-append}
-use borrow.Author.Tests.{leb-true}
 use Rattle.planning.proofs.Guards.{and-both}
 use Rattle.task.specs.Limits.{headerBytes, variableBytes, operatorBytes, termBytes}
 use Rattle.task.specs.Bytes.{part}
 use Rattle.task.specs.Format.{variables, operators, terms, variablesAt, operatorsAt, termsAt, variableRecord, operatorRecord, termRecord}
-use Rattle.task.specs.Check.{sectionInside, allInside, allApart, accepted}
-use Rattle.task.proofs.Acceptance.{header-is, sound}
+use Rattle.task.specs.Check.{allApart, accepted}
+use Rattle.task.proofs.Acceptance.{header-is, variables-inside, operators-inside, terms-inside, sound}
 use Rattle.writer.specs.Canonical.{sections, begin, sectionCount, mostWrittenBytes}
 use Rattle.writer.proofs.Room.{Disjoint, Between, total, apart-is, room}
 use Rattle.writer.proofs.Records.{Wide, length-records, section-is, section-wide}
@@ -61,51 +60,31 @@ module _ (f : List ℕ) where
 
 -- ---- an accepted file's
 module _ (f : List ℕ) (a : accepted f ≡ true) where
-  pub record Inside (at n : ℕ) : Type 0 where
-    pub behind : headerBytes ≤ at
-    pub ends : at + n ≤ length f
-
-  inside : (at n : ℕ) → sectionInside (length f) at n ≡ true → Inside at n
-  unfolding sectionInside
-  inside at n e = let b = and-both _ _ e in record { behind = leb-true headerBytes at (b .0); ends = leb-true (at + n) (length f) (b .1) }
-
-  pub variables-inside : Inside (variablesAt f) (variableBytes * variables f)
-  unfolding allInside
-  variables-inside = inside _ _ (and-both _ _ (header-is f a .inside) .0)
-
-  pub operators-inside : Inside (operatorsAt f) (operatorBytes * operators f)
-  unfolding allInside
-  operators-inside = inside _ _ (and-both _ _ (and-both _ _ (header-is f a .inside) .1) .0)
-
-  pub terms-inside : Inside (termsAt f) (termBytes * terms f)
-  unfolding allInside
-  terms-inside = inside _ _ (and-both _ _ (and-both _ _ (header-is f a .inside) .1) .1)
-
   -- each section is a part of the file
   pub section-variables : part f (variablesAt f) (variableBytes * variables f) ≡ getD (sections f) 0 []
   unfolding sections variableRecord
-  section-variables = section-is f (variablesAt f) variableBytes (variables f) (variables-inside .ends)
+  section-variables = section-is f (variablesAt f) variableBytes (variables f) (variables-inside f a .ends)
 
   pub section-operators : part f (operatorsAt f) (operatorBytes * operators f) ≡ getD (sections f) 1 []
   unfolding sections operatorRecord
-  section-operators = section-is f (operatorsAt f) operatorBytes (operators f) (operators-inside .ends)
+  section-operators = section-is f (operatorsAt f) operatorBytes (operators f) (operators-inside f a .ends)
 
   pub section-terms : part f (termsAt f) (termBytes * terms f) ≡ getD (sections f) 2 []
   unfolding sections termRecord
-  section-terms = section-is f (termsAt f) termBytes (terms f) (terms-inside .ends)
+  section-terms = section-is f (termsAt f) termBytes (terms f) (terms-inside f a .ends)
 
   -- and its records are whole
   pub variables-wide : Wide (variableRecord f) variableBytes (variables f) 0
   unfolding variableRecord
-  variables-wide = section-wide f (variablesAt f) variableBytes (variables f) (variables-inside .ends)
+  variables-wide = section-wide f (variablesAt f) variableBytes (variables f) (variables-inside f a .ends)
 
   pub operators-wide : Wide (operatorRecord f) operatorBytes (operators f) 0
   unfolding operatorRecord
-  operators-wide = section-wide f (operatorsAt f) operatorBytes (operators f) (operators-inside .ends)
+  operators-wide = section-wide f (operatorsAt f) operatorBytes (operators f) (operators-inside f a .ends)
 
   pub terms-wide : Wide (termRecord f) termBytes (terms f) 0
   unfolding termRecord
-  terms-wide = section-wide f (termsAt f) termBytes (terms f) (terms-inside .ends)
+  terms-wide = section-wide f (termsAt f) termBytes (terms f) (terms-inside f a .ends)
 
   -- where the sections begin in the written file, and where it ends
   pub record Begins : Type 0 where
@@ -133,9 +112,9 @@ module _ (f : List ℕ) (a : accepted f ≡ true) where
   unfolding allApart total
   end-short =
       let b = begins in
-      let v = variables-inside in
-      let o = operators-inside in
-      let t = terms-inside in
+      let v = variables-inside f a in
+      let o = operators-inside f a in
+      let t = terms-inside f a in
       let p = and-both _ _ (header-is f a .apart) in
       let q = and-both _ _ (p .1) in
       let all : List (ℕ × ℕ) = (variablesAt f, variableBytes * variables f) ∷ (operatorsAt f, operatorBytes * operators f) ∷ (termsAt f, termBytes * terms f) ∷ [] in
