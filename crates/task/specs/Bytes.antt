@@ -1,7 +1,7 @@
--- Reads of a list of bytes, each total: past the end a byte is 0 and a part is empty.
-use Prim.Native.Nat.{ℕ, _+_, _*_, _<_}
+-- Reads of a list of bytes, each total: past the end a byte is 0 and a part is empty. And a number as its bytes.
+use Prim.Native.Nat.{ℕ, _+_, _*_, _/_, _%_, _<_}
 use mathlib.Core.Path.{_≡_}
-use mathlib.Core.List.{List, []}
+use mathlib.Core.List.{List, [], _∷_, _++_}
 use lib.ListN.{length, getD, take, drop}
 use lib.Dec.{leb}
 use Rattle.planning.specs.Connectives.{pick}
@@ -24,3 +24,10 @@ le32 f at = le16 f at + 65536 * le16 f (at + 2)
 -- the n bytes from at, or nothing where they run past the end
 unfoldable pub part : List ℕ → ℕ → ℕ → List ℕ
 part f at n = pick (leb (at + n) (length f)) (take n (drop at f)) []
+
+-- a number in two bytes, and in four, low byte first
+abbrev pub bytes16 : ℕ → List ℕ
+bytes16 n = n % 256 ∷ n / 256 ∷ []
+
+abbrev pub bytes32 : ℕ → List ℕ
+bytes32 n = bytes16 (n % 65536) ++ bytes16 (n / 65536)

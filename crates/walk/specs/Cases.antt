@@ -1,23 +1,22 @@
 -- The stand tasks P and Q as the bytes of their files, for each bound.
-use Prim.Native.Nat.{ℕ, _+_, _*_, _/_, _%_}
+use Prim.Native.Nat.{ℕ, _+_, _*_}
 use mathlib.Core.List.{List, [], _∷_, _++_}
 use lib.ListN.{take, replicate}
+use Rattle.task.specs.Bytes.{bytes16}
+use Rattle.task.specs.Format.{letters}
 
 -- bytes, and zeros behind them up to n
 abbrev padded : ℕ → List ℕ → List ℕ
 padded n bytes = take n (bytes ++ replicate n 0)
 
--- a number below 65,536 in two bytes, low byte first, and in four
-abbrev two : ℕ → List ℕ
-two x = x % 256 ∷ x / 256 ∷ []
-
+-- a number below 65,536 in four bytes, low byte first
 abbrev four : ℕ → List ℕ
-four x = two x ++ (0 ∷ 0 ∷ [])
+four x = bytes16 x ++ (0 ∷ 0 ∷ [])
 
 -- letters, counts, bound, the sections' offsets and the length, for a file of the given length
 abbrev headerOf : ℕ → ℕ → ℕ → ℕ → ℕ → ℕ → ℕ → List ℕ
 headerOf v o t b operatorsAt termsAt bytes =
-    66 ∷ 80 ∷ 84 ∷ 49 ∷ two v ++ two o ++ two t ++ two b ++ four 28 ++ four operatorsAt ++ four termsAt ++ four bytes
+    letters ++ bytes16 v ++ bytes16 o ++ bytes16 t ++ bytes16 b ++ four 28 ++ four operatorsAt ++ four termsAt ++ four bytes
 
 -- the sections stand one behind the other
 abbrev pub header : ℕ → ℕ → ℕ → ℕ → List ℕ

@@ -13,7 +13,7 @@ use Rattle.task.specs.Bytes.{byte, le16, le32}
 use Rattle.task.specs.Format.{variables, operators, terms, bound, variablesAt, operatorsAt, termsAt, fileLength, variableRecord, operatorRecord, termRecord}
 use Rattle.task.specs.Check.{letterRight, lettersRight, lengthRight, countsRight, sectionInside, apart, allInside, allApart, headerFault, accepted}
 use Rattle.task.proofs.Acceptance.{header-is, header-passes}
-use Rattle.writer.specs.Canonical.{bytes16, bytes32, sections, begin, counts, offsets, header, written, sectionCount}
+use Rattle.writer.specs.Canonical.{sections, begin, counts, offsets, header, written, sectionCount}
 use Rattle.writer.specs.Same.{Same}
 use Rattle.writer.proofs.Records.{record-read}
 use Rattle.writer.proofs.Sections.{sections-count, flatten-at, variables-wide, operators-wide, terms-wide, begins, end-small}
@@ -28,11 +28,11 @@ number32 n = omega arith
 
 module _ (f : List ℕ) where
   pub counts-long : length (counts f) ≡ 12
-  unfolding counts flatMap bytes16
+  unfolding counts flatMap
   counts-long = refl
 
   pub header-long : length (header f) ≡ headerBytes
-  unfolding header counts offsets flatMap bytes16 bytes32
+  unfolding header counts offsets flatMap
   header-long = refl
 
   pub written-long : length (written f) ≡ begin f sectionCount
@@ -41,35 +41,35 @@ module _ (f : List ℕ) where
 
   -- ---- the numbers of the header
   pub variables-read : variables (written f) ≡ variables f
-  unfolding written header counts offsets flatMap bytes16 bytes32 byte le16
+  unfolding written header counts offsets flatMap byte le16
   variables-read = number16 (variables f)
 
   pub operators-read : operators (written f) ≡ operators f
-  unfolding written header counts offsets flatMap bytes16 bytes32 byte le16
+  unfolding written header counts offsets flatMap byte le16
   operators-read = number16 (operators f)
 
   pub terms-read : terms (written f) ≡ terms f
-  unfolding written header counts offsets flatMap bytes16 bytes32 byte le16
+  unfolding written header counts offsets flatMap byte le16
   terms-read = number16 (terms f)
 
   pub bound-read : bound (written f) ≡ bound f
-  unfolding written header counts offsets flatMap bytes16 bytes32 byte le16
+  unfolding written header counts offsets flatMap byte le16
   bound-read = number16 (bound f)
 
   variablesAt-read : variablesAt (written f) ≡ begin f 0
-  unfolding written header counts offsets flatMap bytes16 bytes32 byte le16 le32
+  unfolding written header counts offsets flatMap byte le16 le32
   variablesAt-read = number32 (begin f 0)
 
   operatorsAt-read : operatorsAt (written f) ≡ begin f 1
-  unfolding written header counts offsets flatMap bytes16 bytes32 byte le16 le32
+  unfolding written header counts offsets flatMap byte le16 le32
   operatorsAt-read = number32 (begin f 1)
 
   termsAt-read : termsAt (written f) ≡ begin f 2
-  unfolding written header counts offsets flatMap bytes16 bytes32 byte le16 le32
+  unfolding written header counts offsets flatMap byte le16 le32
   termsAt-read = number32 (begin f 2)
 
   length-read : fileLength (written f) ≡ begin f sectionCount
-  unfolding written header counts offsets flatMap bytes16 bytes32 byte le16 le32
+  unfolding written header counts offsets flatMap byte le16 le32
   length-read = number32 (begin f sectionCount)
 
   -- ---- section k: what stands before it in the file, it, and what stands behind it

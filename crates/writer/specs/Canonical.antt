@@ -1,17 +1,11 @@
 -- The file that the writer puts out: the header, then the variables, the operators and the terms, without gaps (document 02, Paper 2).
-use Prim.Native.Nat.{ℕ, _+_, _*_, _/_, _%_}
+use Prim.Native.Nat.{ℕ, _+_, _*_}
 use mathlib.Core.List.{List, [], _∷_, _++_, flatten, flatMap}
 use lib.ListN.{length, take}
 use Rattle.planning.specs.Scan.{tab}
 use Rattle.task.specs.Limits.{headerBytes, variableBytes, operatorBytes, termBytes, mostVariables, mostOperators, mostTerms}
+use Rattle.task.specs.Bytes.{bytes16, bytes32}
 use Rattle.task.specs.Format.{letters, variables, operators, terms, bound, variableRecord, operatorRecord, termRecord}
-
--- a number in two bytes, and in four, low byte first
-unfoldable pub bytes16 : ℕ → List ℕ
-bytes16 n = n % 256 ∷ n / 256 ∷ []
-
-unfoldable pub bytes32 : ℕ → List ℕ
-bytes32 n = bytes16 (n % 65536) ++ bytes16 (n / 65536)
 
 -- the sections in the order in which they are written, each its records one behind the other
 unfoldable pub sections : List ℕ → List (List ℕ)

@@ -19,9 +19,9 @@ ghost use mathlib.Core.List.{[], flatten};
 ghost use Prim.Native.Nat.{_+_, _≤_, _<_};
 ghost use lib.ListN.{length, getD};
 ghost use Rattle.task.specs.Limits.{headerBytes};
-ghost use Rattle.task.specs.Bytes.{Reads};
+ghost use Rattle.task.specs.Bytes.{Reads, bytes16, bytes32};
 ghost use Rattle.task.specs.Check.{accepted};
-ghost use Rattle.writer.specs.Canonical.{bytes16, bytes32, sections, sectionCount, begin, counts, offsets};
+ghost use Rattle.writer.specs.Canonical.{sections, sectionCount, begin, counts, offsets};
 ghost use Rattle.writer.specs.Write.{overlay, writeOf, leaves};
 
 // What the writer answers (specs/Answers.antt has the documents' number and values for each case).

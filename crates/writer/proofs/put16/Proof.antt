@@ -1,7 +1,6 @@
 use borrow.Author.Needs.{needs}
 use native.Mathlib.Omega.{arith}
 use lib.ListN.{length-set}
-use Rattle.writer.specs.Canonical.{bytes16}
 use Rattle.writer.proofs.Overlays.{overlay-stores}
 use Rattle.writer.proofs.put16.Statement.{statement}
 use Rattle.writer.proofs.put16.Tie as tie
@@ -25,7 +24,6 @@ same-length : tie.Need-same-length
 same-length c = search needs
 
 returns : tie.Need-returns
-unfolding bytes16
 returns c = overlay-stores _ _ _ _ (omega arith)
 
 pub put16-spec : {M : Type 1} → statement M

@@ -1,6 +1,6 @@
 use borrow.Author.Needs.{needs}
 use native.Mathlib.Omega.{arith}
-use Rattle.writer.specs.Canonical.{bytes16, bytes32}
+use Rattle.task.specs.Bytes.{bytes16}
 use Rattle.writer.proofs.Overlays.{overlay-behind}
 use Rattle.writer.proofs.put32.Statement.{statement}
 use Rattle.writer.proofs.put32.Tie as tie
@@ -18,7 +18,6 @@ same-length : tie.Need-same-length
 same-length c = search needs
 
 returns : tie.Need-returns
-unfolding bytes16 bytes32
 returns c =
     let b = c .before .before in
     let a = b .before .before .before .before in

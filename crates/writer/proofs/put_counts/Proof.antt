@@ -2,7 +2,8 @@ use mathlib.Core.Path.{refl}
 use mathlib.Core.List.{flatMap}
 use native.Mathlib.Omega.{arith}
 use borrow.Author.Needs.{needs}
-use Rattle.writer.specs.Canonical.{bytes16, counts}
+use Rattle.task.specs.Bytes.{bytes16}
+use Rattle.writer.specs.Canonical.{counts}
 use Rattle.writer.proofs.Writing.{put-behind}
 use Rattle.writer.proofs.put_counts.Statement.{statement}
 use Rattle.writer.proofs.put_counts.Tie as tie
@@ -41,7 +42,7 @@ same-length : tie.Need-same-length
 same-length c = search needs
 
 returns : tie.Need-returns
-unfolding counts flatMap bytes16
+unfolding counts flatMap
 returns c =
     let a5 = c .before .before in
     let a4 = a5 .before .before .before .before .before in

@@ -2,7 +2,8 @@ use mathlib.Core.Path.{refl}
 use mathlib.Core.List.{flatMap}
 use native.Mathlib.Omega.{arith}
 use borrow.Author.Needs.{needs}
-use Rattle.writer.specs.Canonical.{bytes16, bytes32, offsets}
+use Rattle.task.specs.Bytes.{bytes32}
+use Rattle.writer.specs.Canonical.{offsets}
 use Rattle.writer.proofs.Overlays.{overlay-nothing}
 use Rattle.writer.proofs.Writing.{put-behind}
 use Rattle.writer.proofs.put_offsets.Statement.{statement}
@@ -36,7 +37,7 @@ same-length : tie.Need-same-length
 same-length c = search needs
 
 returns : tie.Need-returns
-unfolding offsets flatMap bytes16 bytes32
+unfolding offsets flatMap
 returns c =
     let a4 = c .before .before in
     let a3 = a4 .before .before .before .before .before in
