@@ -67,3 +67,14 @@ unfolding every _and_
 every-all ok zero i h = refl
 every-all ok (suc n) i h =
     rw (h i (omega arith) (omega arith)) (every-all ok n (suc i) (λ k from to. h k (omega arith) (omega arith)))
+
+-- ---- tests that agree at each number fail first at the same one
+module _ (p q : ℕ → Bool) where
+  first-from : (n i : ℕ) → ((k : ℕ) → i ≤ k → k < i + n → p k ≡ q k) → firstBad p n i ≡ firstBad q n i
+  unfolding firstBad
+  first-from zero i e = refl
+  first-from (suc n) i e =
+      rw (e i (omega arith) (omega arith)) (ap (λ (m : ℕ). pick (q i) m i) (first-from n (suc i) (λ k from to. e k (omega arith) (omega arith))))
+
+  pub first-same : (m n : ℕ) → m ≡ n → ((k : ℕ) → k < m → p k ≡ q k) → firstBad p m 0 ≡ firstBad q n 0
+  first-same m n c e = first-from m 0 (λ k from to. e k (omega arith)) ∙ rw c

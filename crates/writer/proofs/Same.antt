@@ -1,45 +1,19 @@
 -- Files that carry the same counts, bound and records in order: the relation's laws, and what does not differ between two such files.
-use Prim.Native.Nat.{ℕ, zero, suc, _+_, _≤_, _<_}
-use mathlib.Core.Path.{_≡_, refl, sym, ap, _∙_}
+use Prim.Native.Nat.{ℕ, _<_}
+use mathlib.Core.Path.{_≡_, refl, sym, _∙_}
 use mathlib.Core.Bool.{Bool, true, false}
-use mathlib.Core.List.{List, _∷_}
-use native.Mathlib.Omega.{arith}
+use mathlib.Core.List.{List}
 use borrow.Author.Tests.{ltb-true}
-use Rattle.planning.specs.Connectives.{_and_, pick}
-use Rattle.planning.specs.Scan.{firstBad, every, tab}
+use Rattle.planning.specs.Connectives.{_and_}
+use Rattle.planning.specs.Scan.{every}
+use Rattle.planning.proofs.Tables.{tab-same}
+use Rattle.planning.proofs.Scan.{first-same}
 use Rattle.task.specs.Limits.{operatorPlaces, termPlaces}
 use Rattle.task.specs.Format.{variables, operators, terms, bound, variableRecord, operatorRecord, termRecord, size, startValue, preconditions, preconditionCount, effects, effectCount, termFacts, termCount, factVariable}
 use Rattle.task.specs.Decode.{sizes, taskOf, operatorIn, termIn}
 use Rattle.task.specs.Check.{namesVariable, hasValue, rises, usedRight, factRight, factsRight, variableRight, preconditionsRight, effectsRight, operatorRecordRight, operatorRight, termFactsRight, termRecordRight, termRight, headerFault, checkOf}
 use Rattle.writer.specs.Canonical.{sections, begin, counts, offsets, header, written}
 use Rattle.writer.specs.Same.{Same}
-
--- ---- equal values at each number make equal rows and scans
-module _ {A : Type 0} (g h : ℕ → A) where
-  tab-from : (n i : ℕ) → ((k : ℕ) → i ≤ k → k < i + n → g k ≡ h k) → tab g n i ≡ tab h n i
-  unfolding tab
-  tab-from zero i e = refl
-  tab-from (suc n) i e =
-      rw (e i (omega arith) (omega arith)) (ap (λ (l : List A). h i ∷ l) (tab-from n (suc i) (λ k from to. e k (omega arith) (omega arith))))
-
-  pub tab-same : (m n : ℕ) → m ≡ n → ((k : ℕ) → k < m → g k ≡ h k) → tab g m 0 ≡ tab h n 0
-  tab-same m n c e = tab-from m 0 (λ k from to. e k (omega arith)) ∙ rw c
-
-module _ (p q : ℕ → Bool) where
-  every-from : (n i : ℕ) → ((k : ℕ) → i ≤ k → k < i + n → p k ≡ q k) → every p n i ≡ every q n i
-  unfolding every
-  every-from zero i e = refl
-  every-from (suc n) i e =
-      rw (e i (omega arith) (omega arith)) (ap (λ (b : Bool). q i and b) (every-from n (suc i) (λ k from to. e k (omega arith) (omega arith))))
-
-  first-from : (n i : ℕ) → ((k : ℕ) → i ≤ k → k < i + n → p k ≡ q k) → firstBad p n i ≡ firstBad q n i
-  unfolding firstBad
-  first-from zero i e = refl
-  first-from (suc n) i e =
-      rw (e i (omega arith) (omega arith)) (ap (λ (m : ℕ). pick (q i) m i) (first-from n (suc i) (λ k from to. e k (omega arith) (omega arith))))
-
-  first-same : (m n : ℕ) → m ≡ n → ((k : ℕ) → k < m → p k ≡ q k) → firstBad p m 0 ≡ firstBad q n 0
-  first-same m n c e = first-from m 0 (λ k from to. e k (omega arith)) ∙ rw c
 
 -- ---- the relation
 pub same-sym : {f g : List ℕ} → Same f g → Same g f
@@ -94,9 +68,13 @@ module _ (f g : List ℕ) (s : Same f g) where
   unfolding usedRight
   same-used fs k = same-values fs k (namesVariable f fs k) refl ∙ rw (same-names fs k)
 
+  same-fact : (fs : List ℕ) (used k : ℕ) → factRight f fs used k ≡ factRight g fs used k
+  unfolding factRight
+  same-fact fs used k = rw (same-used fs k)
+
   same-facts : (fs : List ℕ) (used places : ℕ) → factsRight f fs used places ≡ factsRight g fs used places
-  unfolding factsRight factRight
-  same-facts fs used places = every-from (factRight f fs used) (factRight g fs used) places 0 (λ k from to. rw (same-used fs k))
+  unfolding factsRight
+  same-facts fs used places = λ i. every (λ k. same-fact fs used k i) places 0
 
   same-variable : (v : ℕ) → v < variables f → variableRight f v ≡ variableRight g v
   unfolding variableRight
