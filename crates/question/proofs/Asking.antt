@@ -1,7 +1,7 @@
 -- The ways out of the tests from 11 on, each with the answer that it gives, over the numbers that the code has: b of the bound, n of the
 -- bits, w of the state.
 use Prim.Native.Nat.{ℕ, _+_}
-use mathlib.Core.Path.{_≡_, sym, ap, _∙_}
+use mathlib.Core.Path.{_≡_, ap, _∙_}
 use mathlib.Core.Bool.{true, false}
 use mathlib.Core.List.{List}
 use lib.ListN.{length}
@@ -12,9 +12,6 @@ use Rattle.diagrams.specs.Tree.{trees}
 use Rattle.task.specs.Format.{bound}
 use Rattle.task.specs.Decode.{sizes}
 use Rattle.task.specs.Check.{checkOf, accepted}
-use Rattle.task_check.specs.Answers.{answer, passed}
-use Rattle.task_check.specs.declared.Checked.{Checked}
-use Rattle.task_check.specs.declared.Checked.the-variants.{Accepted, Refused as FileRefused}
 use Rattle.question.specs.Question.{stateRight, inLevel, leastFrom, askOf, questionOf}
 use Rattle.question.specs.Levelled.{heldAt}
 use Rattle.question.specs.declared.Answered.{Answered}
@@ -52,14 +49,10 @@ module _ (ds state levels bit low high : List ℕ) (b′ count b : ℕ) (b-is : 
             let by-bits : leastFrom (heldAt levels ts w) (b + 1) 0 ≡ leastFrom (inLevel levels ts (code ds state)) (b′ + 1) 0 = rw (w-is, b-is) (least-same _ _ (held-in levels ts (code ds state)) (b′ + 1) 0) in
             pick-no _ _ _ _ (rw (← b-is) short) (pick-no _ _ _ _ wrong (pick-yes _ _ _ _ right (pick-yes _ _ _ _ (rw (← b-is, ← n-is) passes) (e ∙ by-bits))))
 
--- ---- the file check's answer r
-pub file-accepted : (f : List ℕ) (r : Checked) → r ≡ Accepted → (answer r ≡ checkOf f) × (passed r ≡ accepted f) → accepted f ≡ true
-file-accepted f r e check = sym (check .1) ∙ ap passed e
-
-pub file-refused : (f state levels bit low high : List ℕ) (count : ℕ) (r : Checked) (number place : ℕ) → r ≡ FileRefused number place → (answer r ≡ checkOf f) × (passed r ≡ accepted f) → Refused number place ≡ questionOf f state levels bit low high count
+-- ---- the file check's answer
+pub file-refused : (f state levels bit low high : List ℕ) (count number place : ℕ) → (number, place) ≡ checkOf f → accepted f ≡ false → Refused number place ≡ questionOf f state levels bit low high count
 unfolding questionOf
-file-refused f state levels bit low high count r number place e check =
-    pick-no _ _ _ _ (sym (check .1) ∙ ap passed e) (ap (λ (x : ℕ × ℕ). Refused (x .0) (x .1)) (sym (ap answer e) ∙ check .0))
+file-refused f state levels bit low high count number place e refused = pick-no _ _ _ _ refused (ap (λ (x : ℕ × ℕ). Refused (x .0) (x .1)) e)
 
 pub asked-is : (f state levels bit low high : List ℕ) (count : ℕ) (x : Answered) → accepted f ≡ true → x ≡ askOf (sizes f) (bound f) state levels bit low high count → x ≡ questionOf f state levels bit low high count
 unfolding questionOf

@@ -1,5 +1,6 @@
 -- `question::question` meets its contract.
-use Rattle.question.proofs.Asking.{file-refused, file-accepted, asked-is}
+use Rattle.task_check.proofs.Laws.{told-accepted, told-refused}
+use Rattle.question.proofs.Asking.{file-refused, asked-is}
 use borrow.Author.Needs.{needs}
 use Rattle.question.proofs.question.Statement.{statement}
 use Rattle.question.proofs.question.Tie as tie
@@ -11,16 +12,18 @@ enum-known-number : tie.Need-enum-known-number
 enum-known-number c = search needs
 
 returns : tie.Need-returns
-returns c = file-refused _ _ _ _ _ _ _ _ _ _ (c .before .number .given .1) (c .before .before .before .check .ensures)
+returns c =
+    let told = told-refused _ _ (c .before .before .before .check .ensures) _ _ (c .before .number .given .1) in
+    file-refused _ _ _ _ _ _ _ _ _ (told .0) (told .1)
 
 enum-told : tie.Need-enum-told
 enum-told c = search needs
 
 ask-requires : tie.Need-ask-requires
-ask-requires c κs = file-accepted _ _ (c .enum-told .given .1) (c .before .before .check .ensures)
+ask-requires c κs = told-accepted _ _ (c .before .before .check .ensures) (c .enum-told .given .1)
 
 returns-2 : tie.Need-returns-2
-returns-2 c = asked-is _ _ _ _ _ _ _ _ (file-accepted _ _ (c .before .enum-told .given .1) (c .before .before .before .check .ensures)) (c .ask .ensures)
+returns-2 c = asked-is _ _ _ _ _ _ _ _ (told-accepted _ _ (c .before .before .before .check .ensures) (c .before .enum-told .given .1)) (c .ask .ensures)
 
 pub question-spec : {M : Type 1} → statement M
 question-spec =

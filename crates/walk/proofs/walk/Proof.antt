@@ -1,13 +1,13 @@
 -- A refused file and an odd plan are answered at once. An accepted file has at most 32 variables, so the state has room.
 use borrow.Author.Needs.{needs}
 use native.Mathlib.Omega.{arith}
-use mathlib.Core.Path.{sym, ap, _∙_}
+use mathlib.Core.Path.{sym, _∙_}
 use mathlib.Core.Bool.{true}
 use mathlib.Core.Path.{_≡_}
 use denote.Ref.{now}
 use lib.Seq.{length-take-le}
 use Rattle.task.specs.Check.{accepted}
-use Rattle.task_check.specs.Answers.{answer, passed}
+use Rattle.task_check.proofs.Laws.{told-accepted, told-refused}
 use Rattle.task.proofs.Acceptance.{sound}
 use Rattle.walk.proofs.Steps.{walk-refused, walk-odd, walk-even}
 use Rattle.walk.proofs.walk.Statement.{statement}
@@ -21,16 +21,15 @@ enum-known-number c = search needs
 
 returns : tie.Need-returns
 returns c =
-    let e = c .before .before .before .check .ensures in
-    let r = sym (c .before .number .given .1) in
-    walk-refused _ _ _ _ (ap answer r ∙ e .0) (ap passed r ∙ e .1)
+    let told = told-refused _ _ (c .before .before .before .check .ensures) _ _ (c .before .number .given .1) in
+    walk-refused _ _ _ _ (told .0) (sym (told .1))
 
 enum-told : tie.Need-enum-told
 enum-told c = search needs
 
 -- the file is accepted, where the answer is not a refusal
 passes : (c : tie.After-enum-told) → true ≡ accepted (now (c .before .before .before .before .before .args .file))
-passes c = ap passed (sym (c .enum-told .given .1)) ∙ c .before .before .check .ensures .1
+passes c = sym (told-accepted _ _ (c .before .before .check .ensures) (c .enum-told .given .1))
 
 returns-2 : tie.Need-returns-2
 returns-2 c = walk-odd _ _ (passes (c .before)) (c .if1 .taken)

@@ -1,13 +1,13 @@
 -- Nothing is written before the file is accepted and there is room for all of it.
 use Prim.Native.Nat.{_≤_}
-use mathlib.Core.Path.{_≡_, sym, ap, _∙_}
+use mathlib.Core.Path.{_≡_}
 use mathlib.Core.Bool.{true}
 use native.Mathlib.Omega.{arith}
 use lib.ListN.{length}
 use borrow.Author.Needs.{needs}
 use denote.Ref.{now}
 use Rattle.task.specs.Check.{accepted}
-use Rattle.task_check.specs.Answers.{answer, passed}
+use Rattle.task_check.proofs.Laws.{told-accepted, told-refused}
 use Rattle.writer.specs.Canonical.{begin, sectionCount}
 use Rattle.writer.proofs.Writing.{write-unread, write-short, header-room, write-whole}
 use Rattle.writer.proofs.write.Statement.{statement}
@@ -24,7 +24,7 @@ enum-told c = search needs
 
 -- the file is accepted, where the answer is not a refusal
 passes : (c : tie.After-enum-told) → accepted (now (c .before .before .before .before .before .args .file)) ≡ true
-passes c = sym (c .before .before .check .ensures .1) ∙ ap passed (c .enum-told .given .1)
+passes c = told-accepted _ _ (c .before .before .check .ensures) (c .enum-told .given .1)
 
 begin-requires : tie.Need-begin-requires
 begin-requires c κs = (passes c, omega arith)
@@ -54,9 +54,8 @@ put-sections-requires c κs =
 
 returns-2 : tie.Need-returns-2
 returns-2 c =
-    let e = c .before .before .before .check .ensures in
-    let r = sym (c .before .number .given .1) in
-    write-unread _ _ _ _ (ap answer r ∙ e .0) (sym (ap passed r ∙ e .1))
+    let told = told-refused _ _ (c .before .before .before .check .ensures) _ _ (c .before .number .given .1) in
+    write-unread _ _ _ _ (told .0) (told .1)
 
 same-length : tie.Need-same-length
 same-length c = search needs
