@@ -2,18 +2,15 @@
 
 use comparison::refusal;
 use laurelsnap::{check, walk, walk_bytes, Refusal, Walked};
-use reference::random::{damage, file, large_task, plan, task, Dice};
+use reference::example;
+use reference::random::{any_task, damage, file, plan, task, Dice};
 use reference::task::encode;
-
-fn example(name: &str) -> Vec<u8> {
-    std::fs::read(format!("{}/../../examples/{name}.bpt", env!("CARGO_MANIFEST_DIR"))).expect("an example file")
-}
 
 #[test]
 fn checks_agree() {
     let mut dice = Dice(11);
     for turn in 0..60_000 {
-        let random = if turn % 8 == 0 { large_task(&mut dice) } else { task(&mut dice) };
+        let random = any_task(&mut dice);
         let whole = file(&mut dice, &random);
         let tried = if dice.one_in(5) { whole } else { damage(&mut dice, &whole) };
         assert_eq!(check(&tried), reference::task::check(&tried).map(|_| ()).map_err(refusal), "turn {turn}");
@@ -39,7 +36,7 @@ fn checks_agree_on_noise() {
 fn walks_agree() {
     let mut dice = Dice(13);
     for turn in 0..40_000 {
-        let random = if turn % 8 == 0 { large_task(&mut dice) } else { task(&mut dice) };
+        let random = any_task(&mut dice);
         let steps = plan(&mut dice, &random);
         let whole = file(&mut dice, &random);
         let tried = if dice.one_in(10) { damage(&mut dice, &whole) } else { whole };

@@ -3,13 +3,10 @@
 
 use comparison::{compare_question, compare_search, lent};
 use laurelsnap::{question, search, Lists, Place, Refusal};
+use reference::example;
 use reference::plan::{reach, Fault};
 use reference::random::{damage, file, task, Dice};
 use reference::search::Lengths;
-
-fn example(name: &str) -> Vec<u8> {
-    std::fs::read(format!("{}/../../examples/{name}.bpt", env!("CARGO_MANIFEST_DIR"))).expect("an example file")
-}
 
 /// One search with these lists, compared in full; the refusal's number, or 0.
 fn compare(file: &[u8], lists: Lists) -> u64 {

@@ -3,24 +3,13 @@
 
 use comparison::{compare_write, refusal};
 use laurelsnap::{canonical, check, search, walk_bytes, write, Lists, Refusal};
-use reference::random::{damage, file, large_task, plan, task, Dice};
+use reference::example;
+use reference::random::{any_task, damage, file, large_task, plan, task, Dice};
 use reference::task::{encode, number, Task, FILE_MOST, HEADER, OPERATOR_BYTES, TERM_BYTES, VARIABLE_BYTES};
 
 const SHORT_LIST: Refusal = Refusal { number: 22, value: 0 };
 /// Bytes of a list past those that are lent.
 const PAST: usize = 9;
-
-fn example(name: &str) -> Vec<u8> {
-    std::fs::read(format!("{}/../../examples/{name}.bpt", env!("CARGO_MANIFEST_DIR"))).expect("an example file")
-}
-
-fn any_task(dice: &mut Dice) -> Task {
-    if dice.one_in(4) {
-        large_task(dice)
-    } else {
-        task(dice)
-    }
-}
 
 /// The file written into so many bytes of a list full of noise, compared byte by byte.
 fn compare(dice: &mut Dice, file: &[u8], length: usize) -> Result<usize, Refusal> {

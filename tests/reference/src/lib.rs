@@ -12,3 +12,8 @@ pub mod task;
 pub mod utility;
 pub mod walk;
 pub mod write;
+
+/// The bytes of one of the repository's example files.
+pub fn example(name: &str) -> Vec<u8> {
+    std::fs::read(format!("{}/../../examples/{name}.bpt", env!("CARGO_MANIFEST_DIR"))).expect("an example file")
+}

@@ -151,6 +151,15 @@ pub fn large_task(dice: &mut Dice) -> Task {
     Task { sizes, start, operators, terms, bound: dice.below(4096) as u64 }
 }
 
+/// A valid task, now and then of any size.
+pub fn any_task(dice: &mut Dice) -> Task {
+    if dice.one_in(8) {
+        large_task(dice)
+    } else {
+        task(dice)
+    }
+}
+
 /// Up to so many unread bytes behind the body.
 fn gap(dice: &mut Dice, most: usize, body: &mut Vec<u8>) {
     let count = dice.between(0, most);

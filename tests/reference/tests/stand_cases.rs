@@ -1,13 +1,10 @@
 //! The scope document's stand cases, on the example files.
 
+use reference::example;
 use reference::plan::{best, Fault};
 use reference::search::{search, Lengths, OSP_LIST};
 use reference::task::{check, encode, Operator, Refusal, Task};
 use reference::walk::{walk, Walked};
-
-fn example(name: &str) -> Vec<u8> {
-    std::fs::read(format!("{}/../../examples/{name}.bpt", env!("CARGO_MANIFEST_DIR"))).expect("an example file")
-}
 
 fn figures(name: &str) -> (u64, u64, (u64, u64, u64), u64, u64, Vec<u16>) {
     let found = search(&example(name), &OSP_LIST).expect("a plan");
