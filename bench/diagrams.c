@@ -99,13 +99,12 @@ int main(int argc, char **argv)
             bdd_delref(c);
             kind = 4, k = i;
         } else if (what < 60) {
-            int op = what < 40 ? 1 : what < 50 ? 2 : 3;
+            kind = what < 40 ? UNION : what < 50 ? DIFFERENCE : INTERSECTION;
             t0 = now();
-            r = laurelsnap_apply(LENT, op, ours[i], ours[j]);
+            r = on_two[kind](LENT, ours[i], ours[j]);
             t1 = now();
-            s = bdd_addref(op == 1 ? bdd_or(theirs[i], theirs[j]) : op == 2 ? bdd_apply(theirs[i], theirs[j], bddop_diff) : bdd_and(theirs[i], theirs[j]));
+            s = bdd_addref(kind == UNION ? bdd_or(theirs[i], theirs[j]) : kind == DIFFERENCE ? bdd_apply(theirs[i], theirs[j], bddop_diff) : bdd_and(theirs[i], theirs[j]));
             t2 = now();
-            kind = op - 1;
         } else if (what < 80) {
             int v = draw(bits);
             t0 = now();

@@ -26,8 +26,17 @@ struct laurelsnap_set {
     uint32_t *bit, size_t bits, uint32_t *low, size_t lows, uint32_t *high, size_t highs, uint32_t *heads, size_t head_count,             \
         uint32_t *chain, size_t chain_count, uint32_t *memo, size_t memo_count, size_t count
 
-/* 1 union, 2 difference, 3 intersection */
-struct laurelsnap_set laurelsnap_apply(LAURELSNAP_LISTS, uint32_t operation, uint32_t a, uint32_t b);
+/*
+ * The union of two sets. A set joined with the empty set, the full set or itself, on either side, is handed over by its known name, with the
+ * count as it was and every list as it was: then nothing is asked of the lists' contents and lengths, of the count or of the names.
+ */
+struct laurelsnap_set laurelsnap_union(LAURELSNAP_LISTS, uint32_t a, uint32_t b);
+
+/* a less b; likewise where both are one set, a is the empty set, or b is the empty or the full one */
+struct laurelsnap_set laurelsnap_difference(LAURELSNAP_LISTS, uint32_t a, uint32_t b);
+
+/* what both have; likewise with the empty set, the full set or itself, on either side */
+struct laurelsnap_set laurelsnap_intersection(LAURELSNAP_LISTS, uint32_t a, uint32_t b);
 
 /* the states that are in the set with the bit as it is or changed */
 struct laurelsnap_set laurelsnap_forget(LAURELSNAP_LISTS, uint32_t v, uint32_t a);

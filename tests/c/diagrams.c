@@ -2,11 +2,16 @@
  * Random sequences of operations on sets of states of up to 12 bits, each compared with a table of all states: the members of every set, the
  * number of entries with the number of different cofactors of the tables, and the answer "full" in lists that are just long enough and in
  * lists that are one entry too short; with working lists of length 0, 1, 7 and 4,096, and memos of 0, 4,104, 4,111 and 8,192.
+ *
+ * And what needs no list: an operation on a set and the empty set, the full set or itself, with noise in the lists, and with lists that can
+ * be neither read nor written.
  */
+#define _DEFAULT_SOURCE /* for MAP_ANONYMOUS */
 #include "diagrams.h"
 #include <stdio.h>
 #include <stdlib.h>
 #include <string.h>
+#include <sys/mman.h>
 
 enum { BITS = 12, STATES = 1 << BITS, SETS = 41, ENTRIES = 1024, WORK = 4096, MEMO = 8192, GUARD = 0x5a5a5a5a };
 
@@ -97,7 +102,7 @@ static int run(int bits, size_t n, size_t h, size_t c, size_t m)
     for (int t = 1; t < SETS; t++) {
         struct step *s = &steps[t];
         uint32_t a = names[s->i], b = names[s->j];
-        struct laurelsnap_set r = s->kind < 3 ? laurelsnap_apply(bit, n, low, n, high, n, heads, h, chain, c, memo, m, count, (uint32_t)s->kind + 1, a, b)
+        struct laurelsnap_set r = s->kind < 3 ? on_two[s->kind](bit, n, low, n, high, n, heads, h, chain, c, memo, m, count, a, b)
                                   : s->kind == 3 ? laurelsnap_forget(bit, n, low, n, high, n, heads, h, chain, c, memo, m, count, (uint32_t)s->v, a)
                                                  : laurelsnap_demand(bit, n, low, n, high, n, heads, h, chain, c, memo, m, count, s->care, s->value, a);
         if (r.full != (n < counts[t]))
@@ -117,8 +122,61 @@ static int run(int bits, size_t n, size_t h, size_t c, size_t m)
     return 0;
 }
 
+enum { LISTS = 6, LONGEST = 3, PAGE = 4096 };
+
+/* Whether the known name is handed over, with no entry more, from lists of these lengths. X stands for any set. */
+static bool told(uint32_t *const lists[LISTS], const size_t lengths[LISTS], size_t count)
+{
+    enum { X = 2 };
+    static const struct {
+        int kind;
+        uint32_t a, b, name;
+    } known[] = {{UNION, 0, X, X},        {UNION, X, 0, X},        {UNION, 1, X, 1},        {UNION, X, 1, 1},        {UNION, X, X, X},
+                 {DIFFERENCE, 0, X, 0},   {DIFFERENCE, X, 0, X},   {DIFFERENCE, X, 1, 0},   {DIFFERENCE, X, X, 0},   {INTERSECTION, 0, X, 0},
+                 {INTERSECTION, X, 0, 0}, {INTERSECTION, 1, X, X}, {INTERSECTION, X, 1, X}, {INTERSECTION, X, X, X}};
+    static const uint32_t sets[] = {0, 1, 2, 3, LONGEST + 1, LONGEST + 2, 1048577, INT32_MAX, UINT32_MAX};
+    for (size_t i = 0; i < sizeof known / sizeof *known; i++)
+        for (size_t j = 0; j < sizeof sets / sizeof *sets; j++) {
+            uint32_t a = known[i].a == X ? sets[j] : known[i].a, b = known[i].b == X ? sets[j] : known[i].b;
+            uint32_t name = known[i].name == X ? sets[j] : known[i].name;
+            struct laurelsnap_set r = on_two[known[i].kind](lists[0], lengths[0], lists[1], lengths[1], lists[2], lengths[2], lists[3], lengths[3],
+                                                            lists[4], lengths[4], lists[5], lengths[5], count, a, b);
+            if (r.full || r.name != name || r.count != count)
+                return false;
+        }
+    return true;
+}
+
+/* All lengths from 0 to 3 of the six lists, with counts of which most are beyond them: in noise, which must stay, and in pages out of reach. */
+static int shortcuts(void)
+{
+    static const size_t wrong[] = {0, 1, LONGEST, LONGEST + 1, 1048576, SIZE_MAX};
+    uint32_t noise[LISTS][LONGEST], before[LISTS][LONGEST], *open[LISTS], *shut[LISTS];
+    char *pages = mmap(NULL, LISTS * PAGE, PROT_NONE, MAP_PRIVATE | MAP_ANONYMOUS, -1, 0);
+    if (pages == MAP_FAILED)
+        return fail("mmap", 0, 0, 0);
+    for (size_t i = 0; i < LISTS; i++)
+        open[i] = noise[i], shut[i] = (uint32_t *)(pages + i * PAGE);
+    seed = 1;
+    for (size_t all = 0; all < 1 << 2 * LISTS; all++) {
+        size_t lengths[LISTS];
+        for (size_t i = 0; i < LISTS; i++) {
+            lengths[i] = all >> 2 * i & LONGEST;
+            for (size_t j = 0; j < LONGEST; j++)
+                noise[i][j] = (uint32_t)(draw(2) ? draw(8) : draw((uint64_t)1 << 32));
+        }
+        memcpy(before, noise, sizeof noise);
+        for (size_t i = 0; i < sizeof wrong / sizeof *wrong; i++)
+            if (!told(open, lengths, wrong[i]) || memcmp(before, noise, sizeof noise) != 0 || !told(shut, lengths, wrong[i]))
+                return fail("shortcut", 0, all, 0);
+    }
+    return 0;
+}
+
 int main(void)
 {
+    if (shortcuts())
+        return 1;
     static const size_t lengths[] = {0, 1, 7, WORK}, memos[] = {0, 4104, 4111, MEMO};
     size_t sequences = 0, runs = 0, most = 0;
     for (int bits = 1; bits <= BITS; bits++)
@@ -137,6 +195,6 @@ int main(void)
                             return 1;
                     }
         }
-    printf("diagrams: %zu sequences of %d sets, %zu runs, at most %zu entries: members, counts and full lists are right\n", sequences, SETS - 1, runs, most);
+    printf("diagrams: shortcuts are told from any lists; %zu sequences of %d sets, %zu runs, at most %zu entries: members, counts and full lists are right\n", sequences, SETS - 1, runs, most);
     return 0;
 }

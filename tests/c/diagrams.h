@@ -6,6 +6,12 @@
 
 #include "laurelsnap_sets.h"
 
+/* The operations on two sets. */
+enum { UNION, DIFFERENCE, INTERSECTION };
+
+static struct laurelsnap_set (*const on_two[])(LAURELSNAP_LISTS, uint32_t a, uint32_t b) = {laurelsnap_union, laurelsnap_difference,
+                                                                                            laurelsnap_intersection};
+
 static uint64_t seed;
 
 /* A random number below the given one (xorshift); the seed must not be 0. */

@@ -8,6 +8,7 @@ pub mod Counting
 pub mod Empty
 pub mod Applies
 pub mod Canonical
+pub mod Shortcuts
 pub mod Memos
 pub mod Rows
 pub mod Binary

@@ -2,6 +2,8 @@
 // the same, with memo lists of no number, of one, and of many: the entry count; whether lists of that many entries hold the diagram, and
 // lists of one less; a sum over its values at every list of bits; and, within random sets, the greatest utility and 1, and a sum over the
 // states that have it.
+use diagram_apply::difference;
+use diagram_apply::union;
 use diagrams::Made;
 use diagrams::done;
 use task::bytes::le32;
@@ -112,16 +114,6 @@ fn draw(x: u64) -> u64
     x % PRIME * FACTOR % PRIME
 }
 
-// An operation drawn by x: a union, one time in three a difference.
-fn operation(x: u64) -> u32
-    ensures { λ r. ⌜ (1 ≤ r) × (r ≤ 3) ⌝ }
-{
-    if x / 65536 % 3 == 0 {
-        return 2;
-    }
-    1
-}
-
 // The states that meet a cube.
 fn cube(
     bit: &mut [u32],
@@ -143,7 +135,7 @@ fn cube(
     diagram_cubes::demand(bit, low, high, heads, chain, memo, count, 0, care, value, 1)
 }
 
-// The set a with a random cube joined to it or taken from it; there are so many states.
+// The set a with a random cube joined to it or, one time in three, taken from it; there are so many states.
 fn change(
     bit: &mut [u32],
     low: &mut [u32],
@@ -175,18 +167,10 @@ fn change(
     if c.full {
         return c;
     }
-    diagram_apply::apply(
-        bit,
-        low,
-        high,
-        heads,
-        chain,
-        memo,
-        c.count,
-        operation(y),
-        a,
-        c.name,
-    )
+    if y / 65536 % 3 == 0 {
+        return difference(bit, low, high, heads, chain, memo, c.count, a, c.name);
+    }
+    union(bit, low, high, heads, chain, memo, c.count, a, c.name)
 }
 
 // A random set: no state or every state, by turns, and then changed by so many random cubes. The lists are cleared.
