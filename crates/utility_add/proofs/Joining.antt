@@ -8,7 +8,7 @@ use Rattle.diagrams.specs.Tree.{Tree, same, mkT, named, Canon}
 use Rattle.diagrams.specs.Store.{Table, tree, Store, Done, Makes}
 use Rattle.diagrams.specs.Memo.{Stamped, Recalls, remember}
 use Rattle.diagrams.specs.declared.Made.{Made}
-use Rattle.diagrams.specs.declared.Recalled.{Recalled}
+use Rattle.diagrams.specs.declared.Known.{Known}
 use Rattle.diagrams.proofs.Trees.{no-both}
 use Rattle.diagrams.proofs.Making.{kept}
 use Rattle.diagrams.proofs.Binary.{Call}
@@ -64,7 +64,7 @@ module _ (s : Table) (st : Store s) (stamp k care value w a : ℕ) (ask : Asks s
   add-flat f lt = unchanged f a (ask .below) (flat s f k care value w a lt)
 
   -- the memo has the result
-  pub add-known : (f : Bool) (r : Recalled) → f ≡ true → Recalls memo stamp a k r → r .known ≡ true → Adds s s memo stamp care value w (record { name = r .name; count = s .count; full = false }) (addAt f k care value w (tree s a))
+  pub add-known : (f : Bool) (r : Known) → f ≡ true → Recalls memo stamp a k r → r .known ≡ true → Adds s s memo stamp care value w (record { name = r .name; count = s .count; full = false }) (addAt f k care value w (tree s a))
   unfolding addAt
   add-known f r e rc kn = let q = stamped-recall s memo stamp (Added s care value w) a k r m rc kn in unchanged f (r .name) (q .r-below) (rw e (q .means))
 

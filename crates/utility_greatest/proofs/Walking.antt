@@ -8,7 +8,7 @@ use Rattle.diagrams.specs.Tree.{none, same, named}
 use Rattle.diagrams.specs.Store.{Table, tree, Store}
 use Rattle.diagrams.specs.Memo.{Stamped, Recalls, remember}
 use Rattle.diagrams.specs.declared.Split.{Split}
-use Rattle.diagrams.specs.declared.Recalled.{Recalled}
+use Rattle.diagrams.specs.declared.Known.{Known}
 use Rattle.diagrams.proofs.Trees.{same-false}
 use Rattle.diagrams.proofs.Memos.{stamped-recall, stamped-remember}
 use Rattle.utility.specs.Within.{withinT, mostEnd, mostT}
@@ -35,7 +35,7 @@ module _ (s x : Table) (st : Store s) (sx : Store x) (stamp a d : ℕ) (la : a <
         }
 
     -- the memo has the result
-    pub most-known : (r : Recalled) → Recalls memo stamp a d r → r .known ≡ true → Most s x memo stamp a d (r .name)
+    pub most-known : (r : Known) → Recalls memo stamp a d r → r .known ≡ true → Most s x memo stamp a d (r .name)
     most-known r rc kn = record { value = stamped-recall s memo stamp (MostOf s x) a d r m rc kn .is; keeps = m }
 
     -- the larger of the two sides, put into the memo

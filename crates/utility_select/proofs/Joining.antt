@@ -12,7 +12,7 @@ use Rattle.diagrams.specs.Store.{Table, tree, Store, Done, Makes}
 use Rattle.diagrams.specs.Memo.{Stamped, Recalls, remember}
 use Rattle.diagrams.specs.declared.Made.{Made}
 use Rattle.diagrams.specs.declared.Split.{Split}
-use Rattle.diagrams.specs.declared.Recalled.{Recalled}
+use Rattle.diagrams.specs.declared.Known.{Known}
 use Rattle.diagrams.proofs.Trees.{no-both}
 use Rattle.diagrams.proofs.Making.{kept}
 use Rattle.diagrams.proofs.Binary.{Call}
@@ -71,7 +71,7 @@ module _ (x : Table) (sx : Store x) (v : ℕ) (s : Table) (st : Store s) (stamp 
     select-other e is kn ne = unchanged 0 (omega arith) (sym (end-value (selectEnd v) mkT (select-walks v) x sx (tree s a) d e ld is kn ∙ rw (ne-eqb (e .value) v ne)))
 
     -- the memo has the result
-    pub select-known : (r : Recalled) → Recalls memo stamp a d r → r .known ≡ true → Selects x v s s memo stamp (record { name = r .name; count = s .count; full = false }) whole
+    pub select-known : (r : Known) → Recalls memo stamp a d r → r .known ≡ true → Selects x v s s memo stamp (record { name = r .name; count = s .count; full = false }) whole
     select-known r rc kn = let q = stamped-recall s memo stamp (Selected x v s) a d r m rc kn in unchanged (r .name) (q .r-below) (q .means)
 
   module _ (some : a ≡ 0 → ⊥) (hd : 2 ≤ d) (small : getD (x .bit) (d - 2) 0 < 64) (p : Split) (pr : Pair s x a d p) where
