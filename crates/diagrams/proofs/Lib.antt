@@ -1,6 +1,5 @@
 -- Laws that belong to no one function.
 pub mod Trees
-pub mod Places
 pub mod Entries
 pub mod Making
 pub mod Steps
@@ -9,9 +8,10 @@ pub mod Empty
 pub mod Applies
 pub mod Canonical
 pub mod Shortcuts
+pub mod Unders
 pub mod Memos
 pub mod Rows
-pub mod Binary
+pub mod Children
 pub mod Forgets
 pub mod Meets
 pub mod Diagrams

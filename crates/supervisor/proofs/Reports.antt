@@ -1,6 +1,6 @@
--- The report of an answer that a match took apart: w, which a call gave, is v, and w is the definition's W.
+-- What a call gave, w, is the definition's answer, and so is what is reported of it.
 use Prim.Native.Nat.{ℕ}
-use mathlib.Core.Path.{_≡_, sym, ap, subst, _∙_}
+use mathlib.Core.Path.{_≡_, ap, subst, _∙_}
 use mathlib.Core.List.{List}
 use Rattle.task.specs.Decode.{taskOf}
 use Rattle.search.specs.Lent.{Lent}
@@ -13,15 +13,12 @@ use Rattle.writer.specs.Answers.{numbers as writeNumbers}
 use Rattle.supervisor.specs.Reports.{totalsOf, Reports}
 use Rattle.supervisor.specs.declared.Totals.{Totals}
 
-pub case-is : {A B : Type 0} (n : A → B) (w v W : A) (x : B) → w ≡ v → w ≡ W → x ≡ n v → x ≡ n W
-case-is n w v W x e a r = r ∙ ap n (sym e ∙ a)
-
 pub search-is : (w : Searched) (f : List ℕ) (before after : Lent) (x : Totals) → Searches f before after w → x ≡ totalsOf w → Reports f before after x
 search-is w f before after x s r = record {
   answers = r ∙ ap totalsOf (s .answers);
   leaves = subst (λ (a : Searched). Leaves (taskOf f) a before after) (s .answers) (s .leaves);
 }
 
-pub write-is : (w v : Written) (f out out′ : List ℕ) (x : ℕ × ℕ × ℕ) → w ≡ v → (w ≡ writeOf f (length out)) × (out′ ≡ leaves w f out) → x ≡ writeNumbers v
+pub write-is : (w : Written) (f out out′ : List ℕ) (x : ℕ × ℕ × ℕ) → (w ≡ writeOf f (length out)) × (out′ ≡ leaves w f out) → x ≡ writeNumbers w
     → (x ≡ writeNumbers (writeOf f (length out))) × (out′ ≡ leaves (writeOf f (length out)) f out)
-write-is w v f out out′ x e s r = (case-is writeNumbers w v (writeOf f (length out)) x e (s .0) r, s .1 ∙ ap (λ (a : Written). leaves a f out) (s .0))
+write-is w f out out′ x s r = (r ∙ ap writeNumbers (s .0), s .1 ∙ ap (λ (a : Written). leaves a f out) (s .0))

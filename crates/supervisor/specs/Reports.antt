@@ -1,4 +1,4 @@
--- The answers as C gets them: document 01's number and values.
+-- A search's answer as C gets it: document 01's number and value, and the figures.
 use Prim.Native.Nat.{ℕ}
 use mathlib.Core.Path.{_≡_}
 use mathlib.Core.List.{List}
@@ -9,16 +9,7 @@ use Rattle.search.specs.Lent.{Lent}
 use Rattle.search.specs.Answers.{numbers, figures}
 use Rattle.search.specs.Search.{searchOf, Leaves}
 use Rattle.shift_time.specs.Time.{timeOf}
-use Rattle.supervisor.specs.declared.Report.{Report}
 use Rattle.supervisor.specs.declared.Totals.{Totals}
-
--- a number and two values
-abbrev pub reported : Report → ℕ × ℕ × ℕ
-reported r = (r .number, r .first, r .second)
-
--- the file check's number and value, then 0
-abbrev pub checkNumbers : ℕ × ℕ → ℕ × ℕ × ℕ
-checkNumbers a = (a .0, a .1, 0)
 
 -- a number, a value, and the figures of a listing with its time
 abbrev pub totalsWith : ℕ → ℕ → Listing → Totals

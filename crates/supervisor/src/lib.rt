@@ -1,16 +1,16 @@
 // The file check, the writer, the walk, the search and the question for callers in C; include/laurelsnap.h describes them there.
-use question::Answered;
 use question::question;
+use reports::Report;
+use reports::of_check;
+use reports::of_question;
+use reports::of_walk;
+use reports::of_write;
 use search::answer::Listing;
 use search::answer::Searched;
 use search::search::search;
 use shift_time::time_of;
-use task_check::Checked;
 use task_check::check;
-use walk::Walked;
-use walk::fault_number;
 use walk::walk;
-use writer::Written;
 use writer::write;
 ghost use mathlib.Core.Path.{_≡_};
 ghost use lib.ListN.{length};
@@ -23,36 +23,15 @@ ghost use Rattle.search.specs.Lent.{lent};
 ghost use Rattle.search.specs.Answers.{noFigures};
 ghost use Rattle.question.specs.Question.{questionOf};
 ghost use Rattle.question.specs.Answers.{numbers as questionNumbers};
-ghost use Rattle.supervisor.specs.Reports.{reported, checkNumbers, totalsWith, totalsOf, Reports};
-
-// An answer as C gets it: document 01's number, and two values.
-#[repr(C)]
-pub struct Report {
-    pub number: u64,
-    pub first: u64,
-    pub second: u64,
-}
-
-// A number and two values.
-fn reply(number: u64, first: u64, second: u64) -> Report
-    ensures { λ r. ⌜ reported r ≡ (number, first, second) ⌝ }
-{
-    Report {
-        number,
-        first,
-        second,
-    }
-}
+ghost use Rattle.reports.specs.Reported.{reported, checkNumbers};
+ghost use Rattle.supervisor.specs.Reports.{totalsWith, totalsOf, Reports};
 
 // The file check: 0, or the refusal's number and value.
 #[no_mangle]
 pub extern "C" fn laurelsnap_check(file: &[u8]) -> Report
     ensures { λ r. ⌜ reported r ≡ checkNumbers (checkOf (now (file .entry))) ⌝ }
 {
-    match check(file) {
-        Checked::Accepted => reply(0, 0, 0),
-        Checked::Refused { number, place } => reply(number as u64, place as u64, 0),
-    }
+    of_check(check(file))
 }
 
 // The writer: 0 and the length written, or the refusal's number and value.
@@ -65,11 +44,7 @@ pub extern "C" fn laurelsnap_write(file: &[u8], out: &mut [u8]) -> Report
         let answer = writeOf f (length before) in
         ⌜ (reported r ≡ writeNumbers answer) × (after ≡ leaves answer f before) ⌝ }
 {
-    match write(file, out) {
-        Written::Unread { number, place } => reply(number as u64, place as u64, 0),
-        Written::Short => reply(22, 0, 0),
-        Written::Whole { length } => reply(0, length as u64, 0),
-    }
+    of_write(write(file, out))
 }
 
 // The walk of a plan: 0, cost and utility, or the refusal's number and value.
@@ -77,15 +52,7 @@ pub extern "C" fn laurelsnap_write(file: &[u8], out: &mut [u8]) -> Report
 pub extern "C" fn laurelsnap_walk(file: &[u8], plan: &[u8]) -> Report
     ensures { λ r. ⌜ reported r ≡ walkNumbers (walkOf (now (file .entry)) (now (plan .entry))) ⌝ }
 {
-    match walk(file, plan) {
-        Walked::Unread { number, place } => reply(number as u64, place as u64, 0),
-        Walked::Odd => reply(16, 0, 0),
-        Walked::Stopped(stop) => {
-            let fault = stop.fault;
-            reply(fault_number(fault), stop.step as u64, 0)
-        }
-        Walked::Reached { cost, utility } => reply(0, cost as u64, utility as u64),
-    }
+    of_walk(walk(file, plan))
 }
 
 // What a search reports: a refusal's number and value, or 0, 0 and the figures of the listing.
@@ -207,9 +174,5 @@ pub extern "C" fn laurelsnap_question(
         let answer = questionOf (now (file .entry)) (now (state .entry)) (now (levels .entry)) (now (bit .entry)) (now (low .entry)) (now (high .entry)) count in
         ⌜ reported r ≡ questionNumbers answer ⌝ }
 {
-    match question(file, state, levels, bit, low, high, count) {
-        Answered::Refused { number, place } => reply(number as u64, place as u64, 0),
-        Answered::Least { cost } => reply(0, cost as u64, 1),
-        Answered::NotReached => reply(0, 0, 0),
-    }
+    of_question(question(file, state, levels, bit, low, high, count))
 }

@@ -8,18 +8,19 @@ use native.Mathlib.Omega.{arith}
 use lib.ListN.{getD}
 use lib.Dec.{ltb}
 use borrow.Author.Tests.{ltb-true, ltb-false, eq-eqb, ne-eqb}
-use Rattle.diagrams.specs.Tree.{Tree, none, node, named, Canon, lowT, highT}
+use Rattle.diagrams.specs.Tree.{Tree, none, all, node, named, Canon, lowT, highT}
 use Rattle.diagrams.specs.Store.{Table, tree, Store}
 use Rattle.diagrams.specs.Memo.{Memo}
 use Rattle.diagrams.specs.declared.Split.{Split}
 use Rattle.diagrams.proofs.Trees.{test, no-both}
 use Rattle.diagrams.proofs.Entries.{tree-canon}
 use Rattle.diagrams.proofs.Applies.{lead}
-use Rattle.diagrams.proofs.Binary.{tree-inner}
+use Rattle.diagrams.proofs.Children.{tree-inner}
 use Rattle.diagrams.proofs.Memos.{memo-extends}
 use Rattle.utility.specs.Within.{withinT}
-use Rattle.utility.specs.Reading.{nodes, endOf, pairOf}
+use Rattle.utility.specs.Reading.{nodes, endOf, pairOf, Names}
 use Rattle.utility.specs.declared.Ending.{Ending}
+use Rattle.utility.proofs.Adds.{sides-canon}
 use Rattle.utility.proofs.Within.{Walks, within-end, within-none, within-all, within-lead}
 
 -- a store that is only read needs no working lists
@@ -37,14 +38,14 @@ store-bare s st =
       high-earlier = st .high-earlier;
       apart = st .apart;
       canon = st .canon;
-      chained = record { heads-count = λ i. omega arith; heads-chain = λ i. omega arith; links = λ k lt le some. absurd (omega arith); reach = λ k lt le some. absurd (omega arith) };
+      chained = record { links = λ k lt le some. absurd (omega arith); reach = λ k lt le some. absurd (omega arith) };
     }
 
 pub memo-bare : (s : Table) (memo : List ℕ) → Memo s memo → Memo (bare s) memo
-memo-bare s memo m = memo-extends s (bare s) (omega arith) (λ n h. refl) memo m
+memo-bare s memo m = memo-extends s (bare s) (omega arith) (λ n h. refl) (m .states) memo m
 
 pub memo-full : (s : Table) (memo : List ℕ) → Memo (bare s) memo → Memo s memo
-memo-full s memo m = memo-extends (bare s) s (omega arith) (λ n h. refl) memo m
+memo-full s memo m = memo-extends (bare s) s (omega arith) (λ n h. refl) (m .states) memo m
 
 -- a name other than 0 stands for a set that is not empty
 pub not-none : (s : Table) (st : Store s) (a : ℕ) → a < s .count + 2 → (a ≡ 0 → ⊥) → tree s a ≡ none → ⊥
@@ -171,6 +172,35 @@ pub record Pair (s x : Table) (a d : ℕ) (p : Split) : Type 0 where
   pub leads : p .bit ≡ lead (tree s a) (tree x d)
   pub below : p .bit < 64
 
+-- the names on the two sides of a pair
+module _ (s x : Table) (n a d : ℕ) (f : Names s x n a d) (p : Split) (q : Pair s x a d p) where
+  side-canon : (s : Table) (a l h : ℕ) → Side s (p .bit) a l h → Canon (suc (p .bit)) (tree s l) × Canon (suc (p .bit)) (tree s h)
+  side-canon s a l h e = let c = sides-canon (p .bit) (tree s a) (e .order) in (rw (e .low-is) (c .0), rw (e .high-is) (c .1))
+
+  pub low-names : Names s x (suc (p .bit)) (p .al) (p .bl)
+  low-names =
+      record {
+        a-below = omega (arith, f .a-below, q .of-set .low-le);
+        d-below = omega (arith, f .d-below, q .of-values .low-le);
+        a-from = side-canon s a (p .al) (p .ah) (q .of-set) .0;
+        d-from = side-canon x d (p .bl) (p .bh) (q .of-values) .0;
+      }
+
+  pub high-names : Names s x (suc (p .bit)) (p .ah) (p .bh)
+  high-names =
+      record {
+        a-below = omega (arith, f .a-below, q .of-set .high-le);
+        d-below = omega (arith, f .d-below, q .of-values .high-le);
+        a-from = side-canon s a (p .al) (p .ah) (q .of-set) .1;
+        d-from = side-canon x d (p .bl) (p .bh) (q .of-values) .1;
+      }
+
+lead-from : (n c : ℕ) (t l h : Tree) → Canon n t → Canon n (node c l h) → n ≤ lead t (node c l h)
+unfolding Canon lead
+lead-from n c none l h ct cu = cu .0
+lead-from n c all l h ct cu = cu .0
+lead-from n c (node b m k) l h ct cu = omega (arith, ct .0, cu .0)
+
 module _ (s x : Table) (st : Store s) (sx : Store x) (a d : ℕ) (la : a < s .count + 2) (ld : d < x .count + 2) (hd : 2 ≤ d) (small : getD (x .bit) (d - 2) 0 < 64) (some : a ≡ 0 → ⊥) where
   abbrev c : ℕ
   c = getD (x .bit) (d - 2) 0
@@ -228,3 +258,7 @@ module _ (s x : Table) (st : Store s) (sx : Store x) (a d : ℕ) (la : a < s .co
   walk-on end join 𝓦 p q =
       rw (q .of-set .low-is, q .of-set .high-is, q .of-values .low-is, q .of-values .high-is)
       (rw d-inner (within-lead end join 𝓦 (tree s a) c _ _ (p .bit) (not-none s st a la some) small (q .leads ∙ ap (lead (tree s a)) d-inner)))
+
+  -- the lesser bit of a pair whose bits are n or more
+  pub pair-from : (n : ℕ) → Names s x n a d → (p : Split) → Pair s x a d p → n ≤ p .bit
+  pair-from n f p q = let cd = rw d-inner at (f .d-from) in omega (arith, q .leads ∙ ap (lead (tree s a)) d-inner, lead-from n c (tree s a) _ _ (f .a-from) cd)

@@ -10,7 +10,7 @@ use lib.Seq.{drop-cons, drop-length}
 use borrow.Author.Tests.{lt-ltb, le-ltb, eq-eqb, ne-eqb}
 use Rattle.diagrams.specs.Tree.{Tree, none, all, node, same, mkT, valueEnd, Canon, Under, lowT, highT, bitAt, diagram}
 use Rattle.diagrams.proofs.Trees.{test, no-both, same-true, same-refl, mkT-same, mkT-node}
-use Rattle.search_theory.proofs.Bits.{under-mkT}
+use Rattle.diagrams.proofs.Unders.{under-mkT}
 use Rattle.utility.specs.Values.{valueAt}
 
 -- two trees are one or not

@@ -1,10 +1,11 @@
 -- What a name of the utility diagram stands for, and how a name of a set and one of the diagram are parted.
-use Prim.Native.Nat.{ℕ, _-_}
+use Prim.Native.Nat.{ℕ, _+_, _-_, _<_}
 use mathlib.Core.Bool.{true, false, cond}
 use mathlib.Core.List.{List, []}
 use lib.Dec.{ltb}
 use lib.ListN.{getD}
-use Rattle.diagrams.specs.Store.{Table, table}
+use Rattle.diagrams.specs.Tree.{Canon}
+use Rattle.diagrams.specs.Store.{Table, table, tree}
 use Rattle.diagrams.specs.declared.Split.{Split}
 use Rattle.utility.specs.declared.Ending.{Ending}
 
@@ -30,3 +31,10 @@ pairOf bit low high ubit ulow uhigh a u =
     cond (ltb a 2) (record { bit = c; al = a; ah = a; bl = m; bh = k })
     (cond (ltb b c) (record { bit = b; al = l; ah = h; bl = u; bh = u })
     (cond (ltb c b) (record { bit = c; al = a; ah = a; bl = m; bh = k }) (record { bit = b; al = l; ah = h; bl = m; bh = k })))
+
+-- a name of a set and one of the diagram, whose bits are n or more
+pub record Names (s x : Table) (n a d : ℕ) : Type 0 where
+  pub a-below : a < s .count + 2
+  pub d-below : d < x .count + 2
+  pub a-from : Canon n (tree s a)
+  pub d-from : Canon n (tree x d)

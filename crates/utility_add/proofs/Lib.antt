@@ -1,3 +1,3 @@
 -- Laws that belong to no one function.
-pub mod Parting
-pub mod Joining
+pub mod Sums
+pub mod Adding

@@ -6,20 +6,20 @@ use mathlib.Core.List.{List, [], _∷_}
 use native.Mathlib.Omega.{arith}
 use native.Mathlib.Nat.{zero-add}
 use native.Mathlib.Numerals.{add-one}
-use lib.ListN.{length, replicate}
+use lib.ListN.{length}
 use Rattle.planning.specs.Scan.{tab}
 use Rattle.planning.specs.Coding.{bits, fits, factsLits}
 use Rattle.task.specs.Format.{terms}
 use Rattle.task.specs.Decode.{sizes, termIn, taskOf}
 use Rattle.task.specs.Check.{accepted}
 use Rattle.diagrams.specs.Tree.{Tree, none, all, same, mkT, named, trees, valueEnd, diagram}
-use Rattle.diagrams.specs.Store.{Table, table, tree, Store, Done, Makes}
+use Rattle.diagrams.specs.Store.{Table, table, blank, tree, Store, Done, Makes}
 use Rattle.diagrams.specs.Memo.{Memo}
-use Rattle.diagrams.specs.Sets.{MakesAll, MakesAllWith}
+use Rattle.diagrams.specs.Sets.{MakesAll}
 use Rattle.diagrams.specs.declared.Made.{Made}
 use Rattle.diagrams.proofs.Trees.{mkT-same}
 use Rattle.diagrams.proofs.Empty.{store-empty}
-use Rattle.diagrams.proofs.Sequence.{AllInside, all-length, with-one, with-idle, with-full, with-then, all-one, all-full, all-then}
+use Rattle.diagrams.proofs.Sequence.{AllInside, all-length, all-one, all-idle, all-full, all-then}
 use Rattle.utility.specs.Stages.{plusTerm, stagesFrom, stages, entryCount, utilityTree}
 use Rattle.utility.proofs.Meaning.{lastOf, last-stage, at-most}
 use Rattle.utility_build.specs.Built.{sumTo, stage, stagesAfter, Ready, AddsTerm, Builds}
@@ -37,59 +37,59 @@ module _ (f : List ℕ) (s : Table) (memo : List ℕ) (a t : ℕ) (rd : Ready f 
   end = stage f (terms f)
 
   -- all terms are added
-  none-left : terms f ≤ t → MakesAllWith s s memo (record { name = a; count = s .count; full = false }) after end
+  none-left : terms f ≤ t → MakesAll s s (record { name = a; count = s .count; full = false }) after end
   unfolding stagesAfter AllInside
   none-left le =
       let e : t ≡ terms f = omega (arith, rd .last) in
       let z : terms f - t ≡ 0 = omega arith in
-      rw z (with-idle s (rd .store) memo a [] end (rd .slots) tt (rd .below) (rd .means ∙ ap (stage f) e))
+      rw z (all-idle s (rd .store) a [] end tt (rd .below) (rd .means ∙ ap (stage f) e))
 
   module _ (lt : t < terms f) (s₁ : Table) (memo₁ : List ℕ) (r : Made) (m : AddsTerm f s s₁ memo₁ r t) where
     one-more : after ≡ stage f (suc t) ∷ stagesAfter f (terms f - (t + 1)) (t + 1)
     unfolding stagesAfter
     one-more = let e : terms f - t ≡ suc (terms f - (t + 1)) = omega arith in rw (e, add-one t)
 
-    term-full : r .full ≡ true → (s′ : Table) (memo′ : List ℕ) → MakesAllWith s s′ memo′ r after end
-    term-full e s′ memo′ = rw one-more (with-full s s₁ s′ memo₁ memo′ r (stage f (suc t) ∷ []) (stagesAfter f (terms f - (t + 1)) (t + 1)) (stage f (suc t)) end (with-one s s₁ memo₁ r (stage f (suc t)) (m .makes)) e)
+    term-full : r .full ≡ true → (s′ : Table) → MakesAll s s′ r after end
+    term-full e s′ = rw one-more (all-full s s₁ s′ r (stage f (suc t) ∷ []) (stagesAfter f (terms f - (t + 1)) (t + 1)) (stage f (suc t)) end (all-one s s₁ r (stage f (suc t)) (m .makes)) e)
 
     module _ (e : r .full ≡ false) where
       abbrev done : Done s s₁ (r .name) (stage f (suc t))
-      done = m .makes .makes .done e
+      done = m .makes .done e
 
       next-ready : Ready f s₁ memo₁ (r .name) (t + 1)
       next-ready =
           record {
             right = rd .right;
             store = done .store;
-            slots = m .makes .keeps e;
+            slots = m .keeps e;
             below = done .within;
             means = done .means ∙ ap (stage f) (sym (add-one t));
             last = omega arith;
             sums = rw (add-one t) (sum-more f t (m .light) (rd .sums));
           }
 
-      terms-made : length (s₁ .bit) ≡ length (s .bit) → (s₂ : Table) (memo₂ : List ℕ) (q : Made) → MakesAllWith s₁ s₂ memo₂ q (stagesAfter f (terms f - (t + 1)) (t + 1)) end → MakesAllWith s s₂ memo₂ q after end
-      terms-made len s₂ memo₂ q n =
-          rw one-more (with-then s s₁ s₂ (rd .store) memo₂ (r .name) q (stage f (suc t) ∷ []) (stagesAfter f (terms f - (t + 1)) (t + 1)) (stage f (suc t)) end (with-one s s₁ memo₁ r (stage f (suc t)) (m .makes) .makes .done e) len n)
+      terms-made : length (s₁ .bit) ≡ length (s .bit) → (s₂ : Table) (q : Made) → MakesAll s₁ s₂ q (stagesAfter f (terms f - (t + 1)) (t + 1)) end → MakesAll s s₂ q after end
+      terms-made len s₂ q n =
+          rw one-more (all-then s s₁ s₂ (rd .store) (r .name) q (stage f (suc t) ∷ []) (stagesAfter f (terms f - (t + 1)) (t + 1)) (stage f (suc t)) end (all-one s s₁ r (stage f (suc t)) (m .makes) .done e) len n)
 
 -- the first k terms are added, t of them before; what is made of the rest is then made of all
 pub record TermsAdded (f : List ℕ) (s₀ s : Table) (memo : List ℕ) (name t k : ℕ) : Type 0 where
   pub ready : Ready f s memo name k
-  pub rest : (s′ : Table) (memo′ : List ℕ) (r : Made) → MakesAllWith s s′ memo′ r (stagesAfter f (terms f - k) k) (stage f (terms f)) → MakesAllWith s₀ s′ memo′ r (stagesAfter f (terms f - t) t) (stage f (terms f))
+  pub rest : (s′ : Table) (r : Made) → MakesAll s s′ r (stagesAfter f (terms f - k) k) (stage f (terms f)) → MakesAll s₀ s′ r (stagesAfter f (terms f - t) t) (stage f (terms f))
 
 pub added-none : (f : List ℕ) (s : Table) (memo : List ℕ) (a t : ℕ) → Ready f s memo a t → TermsAdded f s s memo a t t
-added-none f s memo a t rd = record { ready = rd; rest = λ s′ memo′ r m. m }
+added-none f s memo a t rd = record { ready = rd; rest = λ s′ r m. m }
 
 module _ (f : List ℕ) (s₀ s : Table) (memo : List ℕ) (name t k : ℕ) (p : TermsAdded f s₀ s memo name t k) where
-  pub added-end : terms f ≤ k → MakesAllWith s₀ s memo (record { name = name; count = s .count; full = false }) (stagesAfter f (terms f - t) t) (stage f (terms f))
-  added-end le = p .rest s memo _ (none-left f s memo name k (p .ready) le)
+  pub added-end : terms f ≤ k → MakesAll s₀ s (record { name = name; count = s .count; full = false }) (stagesAfter f (terms f - t) t) (stage f (terms f))
+  added-end le = p .rest s _ (none-left f s memo name k (p .ready) le)
 
   module _ (lt : k < terms f) (s₁ : Table) (memo₁ : List ℕ) (r : Made) (m : AddsTerm f s s₁ memo₁ r k) where
-    pub added-full : r .full ≡ true → MakesAllWith s₀ s₁ memo₁ r (stagesAfter f (terms f - t) t) (stage f (terms f))
-    added-full e = p .rest s₁ memo₁ r (term-full f s memo name k (p .ready) lt s₁ memo₁ r m e s₁ memo₁)
+    pub added-full : r .full ≡ true → MakesAll s₀ s₁ r (stagesAfter f (terms f - t) t) (stage f (terms f))
+    added-full e = p .rest s₁ r (term-full f s memo name k (p .ready) lt s₁ memo₁ r m e s₁)
 
     pub added-next : r .full ≡ false → length (s₁ .bit) ≡ length (s .bit) → TermsAdded f s₀ s₁ memo₁ (r .name) t (k + 1)
-    added-next e len = record { ready = next-ready f s memo name k (p .ready) lt s₁ memo₁ r m e; rest = λ s′ memo′ q n. p .rest s′ memo′ q (terms-made f s memo name k (p .ready) lt s₁ memo₁ r m e len s′ memo′ q n) }
+    added-next e len = record { ready = next-ready f s memo name k (p .ready) lt s₁ memo₁ r m e; rest = λ s′ q n. p .rest s′ q (terms-made f s memo name k (p .ready) lt s₁ memo₁ r m e len s′ q n) }
 
 -- the diagram of a constant is its end
 constant : (n k a : ℕ) → diagram valueEnd n k (λ σ. a) ≡ valueEnd a
@@ -122,18 +122,15 @@ module _ (f : List ℕ) where
   stage-last = sym (last-after (terms f) 0 ∙ ap (stage f) (zero-add (terms f))) ∙ ap (lastOf none) (sym all-stages) ∙ last-stage (taskOf f)
 
 -- the whole diagram
-module _ (f : List ℕ) (right : accepted f ≡ true) (bit low high heads cut chain : List ℕ) (n : ℕ) (clear : cut ≡ replicate n 0) (el : length low ≡ length bit) (eh : length high ≡ length bit) (short : length bit ≤ 1048576) where
-  -- the lists as they came, and with the heads cleared
+module _ (f : List ℕ) (right : accepted f ≡ true) (bit low high heads chain : List ℕ) (el : length low ≡ length bit) (eh : length high ≡ length bit) (short : length bit ≤ 1048576) where
+  -- the lists as they came
   abbrev came : Table
   came = table bit low high heads chain 0
 
-  abbrev cleared : Table
-  cleared = table bit low high cut chain 0
+  pub empty-store : Store came
+  empty-store = store-empty bit low high heads chain el eh short
 
-  pub clear-store : Store cleared
-  clear-store = rw clear (store-empty bit low high chain n el eh short)
-
-  built : (s′ : Table) (r : Made) → MakesAll cleared s′ r (stage f 0 ∷ stagesAfter f (terms f) 0) (stage f (terms f)) → Builds came s′ r (taskOf f)
+  built : (s′ : Table) (r : Made) → MakesAll came s′ r (stage f 0 ∷ stagesAfter f (terms f) 0) (stage f (terms f)) → Builds came s′ r (taskOf f)
   unfolding entryCount trees
   built s′ r m =
       record {
@@ -143,29 +140,29 @@ module _ (f : List ℕ) (right : accepted f ≡ true) (bit low high heads cut ch
             record {
               store = d .store;
               grown = rw (all-stages f) (d .grown);
-              counted = rw (all-stages f) (all-length cleared s′ clear-store (r .name) _ _ d);
-              rest = record { bit-rest = d .rest .bit-rest; low-rest = d .rest .low-rest; high-rest = d .rest .high-rest };
+              counted = rw (all-stages f) (all-length came s′ empty-store (r .name) _ _ d);
+              rest = d .rest;
               within = d .within;
               means = d .means ∙ stage-last f;
             };
       }
 
-  module _ (s₁ : Table) (r : Made) (m : Makes cleared s₁ r (mkT 64 (tree cleared 0) (tree cleared 1))) where
-    zero-made : Makes cleared s₁ r (stage f 0)
+  module _ (s₁ : Table) (r : Made) (m : Makes came s₁ r (mkT 64 (tree came 0) (tree came 1))) where
+    zero-made : Makes came s₁ r (stage f 0)
     unfolding named
     zero-made = rw (stage-zero f) m
 
     pub zero-full : r .full ≡ true → (s′ : Table) → Builds came s′ r (taskOf f)
-    zero-full e s′ = built s′ r (all-full cleared s₁ s′ r (stage f 0 ∷ []) (stagesAfter f (terms f) 0) (stage f 0) (stage f (terms f)) (all-one cleared s₁ r (stage f 0) zero-made) e)
+    zero-full e s′ = built s′ r (all-full came s₁ s′ r (stage f 0 ∷ []) (stagesAfter f (terms f) 0) (stage f 0) (stage f (terms f)) (all-one came s₁ r (stage f 0) zero-made) e)
 
     module _ (e : r .full ≡ false) where
-      pub zero-ready : (memo : List ℕ) → Memo s₁ memo → Ready f s₁ memo (r .name) 0
+      pub zero-ready : (memo : List ℕ) → Memo blank memo → Ready f s₁ memo (r .name) 0
       unfolding sumTo
       zero-ready memo m =
           let d = zero-made .done e in
           record { right = right; store = d .store; slots = m; below = d .within; means = d .means; last = omega arith; sums = λ σ. omega arith }
 
-      pub whole : length (s₁ .bit) ≡ length bit → (s′ : Table) (memo′ : List ℕ) (q : Made) → MakesAllWith s₁ s′ memo′ q (stagesAfter f (terms f - 0) 0) (stage f (terms f)) → Builds came s′ q (taskOf f)
-      whole len s′ memo′ q a =
+      pub whole : length (s₁ .bit) ≡ length bit → (s′ : Table) (q : Made) → MakesAll s₁ s′ q (stagesAfter f (terms f - 0) 0) (stage f (terms f)) → Builds came s′ q (taskOf f)
+      whole len s′ q a =
           let z : terms f - 0 ≡ terms f = omega arith in
-          built s′ q (all-then cleared s₁ s′ clear-store (r .name) q (stage f 0 ∷ []) (stagesAfter f (terms f) 0) (stage f 0) (stage f (terms f)) (all-one cleared s₁ r (stage f 0) zero-made .done e) len (rw z at (a .makes)))
+          built s′ q (all-then came s₁ s′ empty-store (r .name) q (stage f 0 ∷ []) (stagesAfter f (terms f) 0) (stage f 0) (stage f (terms f)) (all-one came s₁ r (stage f 0) zero-made .done e) len (rw z at a))

@@ -71,4 +71,4 @@ module _ (f : List ℕ) (right : accepted f ≡ true) where
           ∙ rw (m .care, m .value) (add-term (sizes f) (termIn f t) (sumTo f t) term-facts (omega (arith, few))))
 
       pub term-added : (s′ : Table) (memo′ : List ℕ) (stamp : ℕ) (r : Made) → Adds s s′ memo′ stamp (c .care) (c .value) w r (addAt true 0 (c .care) (c .value) w (tree s a)) → AddsTerm f s s′ memo′ r t
-      term-added s′ memo′ stamp r d = record { makes = record { makes = rw term-stage at (d .makes); keeps = λ x. d .keeps x .base }; light = rw weighs at light }
+      term-added s′ memo′ stamp r d = record { makes = rw term-stage at (d .makes); keeps = λ x. d .keeps x .base; light = rw weighs at light }

@@ -11,8 +11,8 @@ use Rattle.task.specs.Format.{terms}
 use Rattle.task.specs.Decode.{sizes, termIn}
 use Rattle.task.specs.Check.{accepted}
 use Rattle.diagrams.specs.Tree.{Tree, valueEnd, diagram, growAll}
-use Rattle.diagrams.specs.Store.{Table, entries, tree, Store, Rest}
-use Rattle.diagrams.specs.Memo.{Memo, MakesWith}
+use Rattle.diagrams.specs.Store.{Table, blank, entries, tree, Store, Rest, Makes}
+use Rattle.diagrams.specs.Memo.{Memo}
 use Rattle.diagrams.specs.declared.Made.{Made}
 use Rattle.utility.specs.Stages.{plusTerm, stages, entryCount, utilityTree}
 
@@ -30,19 +30,20 @@ unfoldable pub stagesAfter : List ℕ → ℕ → ℕ → List Tree
 stagesAfter f zero t = []
 stagesAfter f (suc n) t = stage f (suc t) ∷ stagesAfter f n (suc t)
 
--- the file is accepted, the name a stands for the stage with the first t terms, and sums of their weights fit the node lists
+-- the file is accepted, the name a stands for the stage with the first t terms, and sums of their weights fit the node lists; the memo remembers nothing that lasts
 pub record Ready (f : List ℕ) (s : Table) (memo : List ℕ) (a t : ℕ) : Type 0 where
   pub right : accepted f ≡ true
   pub store : Store s
-  pub slots : Memo s memo
+  pub slots : Memo blank memo
   pub below : a < s .count + 2
   pub means : tree s a ≡ stage f t
   pub last : t ≤ terms f
   pub sums : (σ : List Bool) → sumTo f t σ ≤ 65535 * t
 
--- the next stage is made; the term's weight has two bytes
+-- the next stage is made, and the memo remembers nothing that lasts; the term's weight has two bytes
 pub record AddsTerm (f : List ℕ) (s s′ : Table) (memo′ : List ℕ) (r : Made) (t : ℕ) : Type 0 where
-  pub makes : MakesWith s s′ memo′ r (stage f (suc t))
+  pub makes : Makes s s′ r (stage f (suc t))
+  pub keeps : r .full ≡ false → Memo blank memo′
   pub light : termIn f t .weight < 65536
 
 -- the lists hold the different nodes of all stages, later entries stay, and the name stands for the utility diagram

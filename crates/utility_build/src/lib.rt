@@ -6,7 +6,7 @@ ghost use mathlib.Core.Bool.{true};
 ghost use Prim.Native.Nat.{_-_, _<_, _≤_};
 ghost use lib.ListN.{length};
 ghost use Rattle.diagrams.specs.Store.{table};
-ghost use Rattle.diagrams.specs.Sets.{MakesAllWith};
+ghost use Rattle.diagrams.specs.Sets.{MakesAll};
 ghost use Rattle.task.specs.Format.{terms};
 ghost use Rattle.task.specs.Check.{accepted};
 ghost use Rattle.task.specs.Decode.{taskOf};
@@ -71,7 +71,7 @@ fn add_terms(
         let s = table (now (bit .entry)) (now (low .entry)) (now (high .entry)) (now (heads .entry)) (now (chain .entry)) count in
         let s′ = table (now (bit .exit)) (now (low .exit)) (now (high .exit)) (now (heads .exit)) (now (chain .exit)) (r .count) in
         let f = now (file .entry) in
-        ⌜ MakesAllWith s s′ (now (memo .exit)) r (stagesAfter f (terms f - t) t) (stage f (terms f)) ⌝ }
+        ⌜ MakesAll s s′ r (stagesAfter f (terms f - t) t) (stage f (terms f)) ⌝ }
 {
     let n = task::header::terms(file);
     let mut name = a;
@@ -106,7 +106,6 @@ pub fn build(
         let s′ = table (now (bit .exit)) (now (low .exit)) (now (high .exit)) (now (heads .exit)) (now (chain .exit)) (r .count) in
         ⌜ Builds s s′ r (taskOf (now (file .entry))) ⌝ }
 {
-    diagrams::clear(heads);
     diagram_memo::begin(memo);
     let r = diagram_table::mk(bit, low, high, heads, chain, 0, 64, 0, 1);
     if r.full {

@@ -173,7 +173,7 @@ fn change(
     union(bit, low, high, heads, chain, memo, c.count, a, c.name)
 }
 
-// A random set: no state or every state, by turns, and then changed by so many random cubes. The lists are cleared.
+// A random set: no state or every state, by turns, and then changed by so many random cubes. The lists have no entry.
 fn random_set(
     bit: &mut [u32],
     low: &mut [u32],
@@ -226,7 +226,6 @@ fn within(
     requires { ⌜ Store (nodes (now ubit) (now ulow) (now uhigh) ucount) × (u < ucount + 2) ⌝ }
     requires { ⌜ (length (now low) ≡ length (now bit)) × (length (now high) ≡ length (now bit)) × (length (now bit) ≤ 1048576) ⌝ }
 {
-    diagrams::clear(heads);
     diagram_memo::begin(memo);
     let b = random_set(bit, low, high, heads, chain, memo, size(n), cubes, seed);
     if b.full {

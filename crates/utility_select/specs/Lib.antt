@@ -1,1 +1,2 @@
 pub mod Select
+pub mod Selecting
