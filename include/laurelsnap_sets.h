@@ -4,10 +4,10 @@
  * Link with the static library that `rt staticlib diagram_bench` writes, target/staticlib/libdiagram_bench.a.
  *
  * A set is a name: 0 the empty set, 1 the full one, k + 2 the entry k of the three node lists of equal length, of which `count` entries are
- * in use. heads, chain and memo are working lists of any lengths. Before the first operation the count is 0, and heads and memo are all
- * zero (the memo is used from the first demand on, if it has 4,104 numbers or more); from then on only the operations write to the lists,
- * and each takes the count that the one before it gave. A bit is below 60, and bit k of a state or a cube is worth 2^k. No address is
- * null. After an answer with `full` the lists are of no more use.
+ * in use. heads, chain and memo are working lists of any lengths. Before the first operation the count is 0 and the memo is all zero (it is
+ * used from the first demand on, if it has 4,104 numbers or more), while heads and chain may hold anything; from then on only the operations
+ * write to the lists, and each takes the count that the one before it gave. A bit is below 60, and bit k of a state or a cube is worth 2^k. No
+ * address is null. After an answer with `full` the lists are of no more use.
  */
 #ifndef LAURELSNAP_SETS_H
 #define LAURELSNAP_SETS_H

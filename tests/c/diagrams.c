@@ -1,7 +1,8 @@
 /*
  * Random sequences of operations on sets of states of up to 12 bits, each compared with a table of all states: the members of every set, the
  * number of entries with the number of different cofactors of the tables, and the answer "full" in lists that are just long enough and in
- * lists that are one entry too short; with working lists of length 0, 1, 7 and 4,096, and memos of 0, 4,104, 4,111 and 8,192.
+ * lists that are one entry too short; with working lists of length 0, 1, 7 and 4,096, and memos of 0, 4,104, 4,111 and 8,192. heads begins as
+ * noise.
  *
  * And what needs no list: an operation on a set and the empty set, the full set or itself, with noise in the lists, and with lists that can
  * be neither read nor written.
@@ -96,7 +97,8 @@ static int run(int bits, size_t n, size_t h, size_t c, size_t m)
     size_t count = 0;
     for (size_t i = 0; i < ENTRIES; i++)
         bit[i] = low[i] = high[i] = GUARD;
-    memset(heads, 0, sizeof heads);
+    for (size_t i = 0; i < WORK; i++)
+        heads[i] = (uint32_t)(draw(2) ? draw(ENTRIES) : draw((uint64_t)1 << 32));
     memset(memo, 0, sizeof memo);
     memset(chain, 0xa5, sizeof chain);
     for (int t = 1; t < SETS; t++) {

@@ -1,0 +1,336 @@
+/*
+ * Whole searches with working lists of many lengths and contents. Each must give what a search with working lists of full length, all zero,
+ * gives: the answer, the plan, the levels, the node entries and the utility entries, in the same order, with all later entries as they were.
+ * Node lists that are shorter than the node count must be refused 14, utility lists that are shorter than the entry count 13, and no others.
+ *
+ * Every list ends at a page that can be neither read nor written, and the numbers before it must stay.
+ *
+ * Usage: working_lists FILE...
+ */
+#define _DEFAULT_SOURCE /* for MAP_ANONYMOUS */
+#include "laurelsnap.h"
+
+#include <signal.h>
+#include <stdbool.h>
+#include <stdio.h>
+#include <stdlib.h>
+#include <string.h>
+#include <sys/mman.h>
+#include <unistd.h>
+
+enum { PAGE = 4096, MOST_BYTES = 16384, MOST_LEVELS = 4096, ENTRIES = 1 << 17, FULL_MEMO = 4 * ENTRIES + 4100 };
+enum { LATER = 5, BEFORE = 16, UNTOUCHED = 0x5a };
+
+/* The lists of a search. */
+enum { LEVELS, BIT, LOW, HIGH, UTILITY_BIT, UTILITY_LOW, UTILITY_HIGH, HEADS, CHAIN, MEMO, PLAN, LISTS };
+
+static const char *const names[LISTS] = { "levels", "bit", "low", "high", "utility bit", "utility low", "utility high", "heads", "chain", "memo",
+    "plan" };
+static uint8_t *ends[LISTS];     /* a list stands in front of its end */
+static size_t lengths[LISTS];    /* how many numbers are lent */
+static uint8_t *expected[LISTS]; /* what the search with full-length working lists wrote */
+static uint8_t *untouched;
+
+struct task {
+    const char *name;
+    uint8_t file[MOST_BYTES + 1];
+    size_t length;
+};
+
+static struct task tasks[2], *task, *other; /* the task that is searched, and the one before it */
+static struct laurelsnap_found full;
+static unsigned long searches;
+
+static size_t width(int list) { return list == PLAN ? 2 : 4; }
+static uint8_t *first(int list) { return ends[list] - width(list) * lengths[list]; }
+static uint32_t *words(int list) { return (uint32_t *)(void *)first(list); }
+
+/* ---- what is told of a fault */
+
+/* The contents of the working lists. */
+enum { ZEROS, ONES, LINKS, NAMES, SLOTS, CIRCLES, NOISE, CONTENTS };
+
+static const char *const content_names[CONTENTS] = { "zeros", "ones", "links", "names", "slots", "circles", "noise" };
+static int contents[LISTS];
+static bool used;
+
+static void fail(const char *what)
+{
+    fprintf(stderr, "working_lists: %s: %s:", task->name, what);
+    for (int list = 0; list < LISTS; list++) {
+        fprintf(stderr, "%s %s %zu", list == 0 ? "" : ",", names[list], lengths[list]);
+        if (HEADS <= list && list <= MEMO)
+            fprintf(stderr, " of %s", content_names[contents[list]]);
+    }
+    fprintf(stderr, "%s; of full length: nodes %llu, entries %llu\n", used ? ", used before" : "", (unsigned long long)full.nodes,
+        (unsigned long long)full.entries);
+    _exit(EXIT_FAILURE);
+}
+
+static void fail_at(const char *what, int list)
+{
+    char text[80];
+    snprintf(text, sizeof text, "%s: %s", names[list], what);
+    fail(text);
+}
+
+static void on_signal(int number) { fail(number == SIGALRM ? "the search does not end" : "the search reads or writes outside the lists"); }
+
+/* ---- random numbers */
+
+static uint64_t seed = 1;
+
+static size_t below(size_t n)
+{
+    seed = seed * 6364136223846793005u + 1442695040888963407u;
+    return (size_t)(seed >> 33) % n;
+}
+
+/* ---- the lists */
+
+static void *pages(size_t bytes)
+{
+    size_t whole = (bytes + PAGE - 1) / PAGE * PAGE + PAGE;
+    uint8_t *at = mmap(NULL, whole + PAGE, PROT_READ | PROT_WRITE, MAP_PRIVATE | MAP_ANONYMOUS, -1, 0);
+    if (at == MAP_FAILED || mprotect(at + whole, PAGE, PROT_NONE) != 0) {
+        perror("working_lists: mmap");
+        exit(EXIT_FAILURE);
+    }
+    return at + whole;
+}
+
+static void make_lists(void)
+{
+    static const size_t most[LISTS] = { MOST_LEVELS, ENTRIES, ENTRIES, ENTRIES, ENTRIES, ENTRIES, ENTRIES, ENTRIES, ENTRIES, FULL_MEMO, MOST_LEVELS };
+    for (int list = 0; list < LISTS; list++) {
+        ends[list] = pages(width(list) * most[list] + BEFORE);
+        expected[list] = malloc(width(list) * most[list]);
+        lengths[list] = most[list];
+    }
+    untouched = malloc(4 * FULL_MEMO);
+    memset(untouched, UNTOUCHED, 4 * FULL_MEMO);
+}
+
+/* Readies all lists but the working lists, and what stands before every list. */
+static void untouch(void)
+{
+    for (int list = 0; list < LISTS; list++) {
+        memset(first(list) - BEFORE, UNTOUCHED, BEFORE);
+        if (list < HEADS || list > MEMO)
+            memset(first(list), UNTOUCHED, width(list) * lengths[list]);
+    }
+}
+
+/* Whether the list begins with so many of the expected numbers and has all later ones as they were. */
+static void check_list(int list, size_t written)
+{
+    size_t bytes = width(list) * written;
+    if (memcmp(first(list), expected[list], bytes) != 0)
+        fail_at("other numbers", list);
+    if (memcmp(first(list) + bytes, untouched, width(list) * lengths[list] - bytes) != 0)
+        fail_at("a number that should have stayed", list);
+}
+
+static void check_lists(int from, int to, size_t written)
+{
+    for (int list = from; list <= to; list++)
+        check_list(list, written);
+}
+
+/* ---- contents of the working lists, made once for each task; a list takes them from some place on */
+
+enum { DRAWN = 1 << 17 };
+
+static uint32_t drawn[CONTENTS][DRAWN];
+
+static void draw_contents(void)
+{
+    size_t count = full.nodes;
+    for (size_t i = 0; i < DRAWN; i++) {
+        drawn[ONES][i] = UINT32_MAX;
+        drawn[LINKS][i] = (uint32_t)(1 + below(count));
+        drawn[NAMES][i] = (uint32_t)(2 + below(count));
+        drawn[SLOTS][i] = (uint32_t)(i % 4 == 0 ? 1 + below(below(2) ? 6 : 600) : below(count + 2));
+        drawn[NOISE][i] = (uint32_t)below((size_t)1 << 31) * 2u + (uint32_t)below(2);
+    }
+}
+
+/* Fills a working list. Links and names are of entries that are there in the end; slots are an operation, two names and a result each. */
+static void fill(int list, int content)
+{
+    uint32_t *at = words(list);
+    size_t n = lengths[list];
+    contents[list] = content;
+    if (content == CIRCLES) {
+        for (size_t i = 0; i < n; i++)
+            at[i] = list == CHAIN ? (uint32_t)i + 1 : (uint32_t)full.nodes;
+    } else {
+        for (size_t i = 0; i < n;) {
+            size_t from = content == SLOTS ? 0 : below(64), more = DRAWN - from;
+            more = more < n - i ? more : n - i;
+            memcpy(at + i, drawn[content] + from, 4 * more);
+            i += more;
+        }
+    }
+    if (list == MEMO && content == SLOTS && n >= 2) {
+        /* a memo that seems to be in use: the last stamp and the number of slots */
+        at[0] = below(4) == 0 ? UINT32_MAX - (uint32_t)below(3) : 600;
+        at[1] = (uint32_t)(n / 4);
+    }
+}
+
+/* ---- searches */
+
+static struct laurelsnap_found search(const struct task *t)
+{
+    alarm(60);
+    searches++;
+    struct laurelsnap_found found = laurelsnap_search(t->file, t->length, words(LEVELS), lengths[LEVELS], words(BIT), lengths[BIT], words(LOW),
+        lengths[LOW], words(HIGH), lengths[HIGH], words(UTILITY_BIT), lengths[UTILITY_BIT], words(UTILITY_LOW), lengths[UTILITY_LOW],
+        words(UTILITY_HIGH), lengths[UTILITY_HIGH], words(HEADS), lengths[HEADS], words(CHAIN), lengths[CHAIN], words(MEMO), lengths[MEMO],
+        (uint16_t *)(void *)first(PLAN), lengths[PLAN]);
+    alarm(0);
+    return found;
+}
+
+static void lend(size_t levels, size_t nodes, size_t entries, size_t plan)
+{
+    lengths[LEVELS] = levels;
+    lengths[BIT] = lengths[LOW] = lengths[HIGH] = nodes;
+    lengths[UTILITY_BIT] = lengths[UTILITY_LOW] = lengths[UTILITY_HIGH] = entries;
+    lengths[PLAN] = plan;
+}
+
+/* The search with working lists of full length, and what it wrote. */
+static void search_full(void)
+{
+    lend(MOST_LEVELS, ENTRIES, ENTRIES, MOST_LEVELS);
+    lengths[HEADS] = lengths[CHAIN] = ENTRIES;
+    lengths[MEMO] = FULL_MEMO;
+    memset(&full, 0, sizeof full);
+    used = false;
+    for (int list = HEADS; list <= MEMO; list++)
+        fill(list, ZEROS);
+    untouch();
+    full = search(task);
+    if (full.number != 0)
+        fail("refused with working lists of full length");
+    for (int list = 0; list < LISTS; list++)
+        memcpy(expected[list], first(list), width(list) * lengths[list]);
+    draw_contents();
+}
+
+/* The search with working lists of these lengths and drawn contents, in node and utility lists of these lengths. */
+static void search_with(size_t heads, size_t chain, size_t memo, size_t nodes, size_t entries)
+{
+    lengths[HEADS] = heads;
+    lengths[CHAIN] = chain;
+    lengths[MEMO] = memo;
+    for (int list = HEADS; list <= MEMO; list++)
+        fill(list, (int)below(CONTENTS));
+    used = below(8) == 0;
+    if (used) {
+        lend(MOST_LEVELS, ENTRIES, ENTRIES, MOST_LEVELS);
+        search(other);
+    }
+    lend(full.bound + 1 + LATER, nodes, entries, full.steps + LATER);
+    untouch();
+    struct laurelsnap_found found = search(task), due = { 0 };
+    due.number = entries < full.entries ? 13 : nodes < full.nodes ? 14 : 0;
+    if (due.number == 0)
+        due = full;
+    if (found.number != due.number) {
+        char text[80];
+        snprintf(text, sizeof text, "number %llu in place of %llu", (unsigned long long)found.number, (unsigned long long)due.number);
+        fail(text);
+    }
+    if (memcmp(&found, &due, sizeof due) != 0)
+        fail("another answer");
+    for (int list = 0; list < LISTS; list++)
+        if (memcmp(first(list) - BEFORE, untouched, BEFORE) != 0)
+            fail_at("a number before the list", list);
+    bool done = due.number == 0;
+    check_list(PLAN, done ? full.steps : 0);
+    if (due.number != 14) {
+        check_list(LEVELS, done ? full.bound + 1 : 0);
+        check_lists(BIT, HIGH, done ? full.nodes : 0);
+    }
+    if (done)
+        check_lists(UTILITY_BIT, UTILITY_HIGH, full.entries);
+}
+
+/* Node and utility lists with more room, just enough, one entry too short, and any number too short. */
+static void search_rooms(size_t heads, size_t chain, size_t memo, int room)
+{
+    size_t nodes = full.nodes, entries = full.entries;
+    switch (room) {
+    case 0:
+        search_with(heads, chain, memo, nodes + LATER, entries + LATER);
+        break;
+    case 1:
+        search_with(heads, chain, memo, nodes, entries);
+        break;
+    case 2:
+        search_with(heads, chain, memo, nodes - 1, entries);
+        break;
+    case 3:
+        search_with(heads, chain, memo, nodes + LATER, entries - 1);
+        break;
+    case 4:
+        search_with(heads, chain, memo, below(nodes), entries + LATER);
+        break;
+    default:
+        search_with(heads, chain, memo, below(nodes + 1), below(entries));
+    }
+}
+
+enum { ROOMS = 6, HEAD_LENGTHS = 9, CHAIN_LENGTHS = 8, MEMO_LENGTHS = 10, SLOW_HEADS = 3, SLOW_CHAINS = 4, SLOW_MEMOS = 5 };
+
+/* One of the lengths; seldom one of the first few, with which a search with many entries is slow. */
+static size_t some(const size_t *from, size_t count, size_t slow) { return from[below(20) == 0 ? below(slow) : slow + below(count - slow)]; }
+
+static void search_task(void)
+{
+    search_full();
+    size_t nodes = full.nodes, entries = full.entries;
+    const size_t heads[HEAD_LENGTHS] = { 0, 1, 3, 777, nodes / 2, nodes, nodes + 1, 4105, 70001 };
+    const size_t chain[CHAIN_LENGTHS] = { 0, 1, nodes / 2, entries - 1, nodes - 1, nodes, nodes + entries, 70001 };
+    const size_t memo[MEMO_LENGTHS] = { 0, 1, 3, 777, 4103, 4104, 4105, 4111, 70001, 4 * nodes + 4100 };
+    for (int round = 0; round < (nodes < 100 ? 2 : nodes < 400 ? 1 : 0); round++)
+        for (int h = 0; h < HEAD_LENGTHS; h++)
+            for (int c = 0; c < CHAIN_LENGTHS; c++)
+                for (int m = 0; m < MEMO_LENGTHS; m++)
+                    for (int room = 0; room < ROOMS; room++)
+                        search_rooms(heads[h], chain[c], memo[m], room);
+    for (int round = 0; round < (nodes < 400 ? 0 : nodes < 5000 ? 80 : 6); round++)
+        for (int room = 0; room < ROOMS; room++)
+            search_rooms(some(heads, HEAD_LENGTHS, SLOW_HEADS), some(chain, CHAIN_LENGTHS, SLOW_CHAINS), some(memo, MEMO_LENGTHS, SLOW_MEMOS), room);
+}
+
+static void read_task(struct task *t, const char *name)
+{
+    t->name = name;
+    FILE *in = fopen(name, "rb");
+    if (in == NULL) {
+        perror(name);
+        exit(EXIT_FAILURE);
+    }
+    t->length = fread(t->file, 1, sizeof t->file, in);
+    fclose(in);
+}
+
+int main(int argc, char **argv)
+{
+    signal(SIGSEGV, on_signal);
+    signal(SIGBUS, on_signal);
+    signal(SIGALRM, on_signal);
+    make_lists();
+    for (int i = 1; i < argc; i++) {
+        task = &tasks[i % 2];
+        other = &tasks[i == 1 ? 1 : (i - 1) % 2];
+        read_task(task, argv[i]);
+        search_task();
+    }
+    printf("working lists: %d tasks, %lu searches give what they give with lists of full length\n", argc - 1, searches);
+    return EXIT_SUCCESS;
+}
