@@ -4,9 +4,9 @@ use mathlib.Core.Path.{_≡_, sym, _∙_}
 use mathlib.Core.List.{List}
 use native.Mathlib.Omega.{arith}
 use lib.ListN.{length}
-use Rattle.search.specs.declared.answer.Searched.{Searched}
-use Rattle.search.specs.Lent.{Lent}
-use Rattle.search.specs.Search.{Searches}
+use Rattle.search_answer.specs.declared.Searched.{Searched}
+use Rattle.search_answer.specs.Lent.{Lent}
+use Rattle.search_answer.specs.Search.{Searches}
 use Rattle.search.proofs.Demands.{passed}
 use Rattle.osp_list.specs.StepsFit.{StepsFit}
 

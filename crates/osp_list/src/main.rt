@@ -1,9 +1,9 @@
 // osp-list: reads a task file from standard input, searches for its best plan in lists of fixed lengths, and prints the listing or the
 // refusal.
 use record_lookup::operator;
-use search::answer::Listing;
-use search::answer::Searched;
-use search::search::search;
+use search::search;
+use search_answer::Listing;
+use search_answer::Searched;
 use shift_time::Time;
 use shift_time::time_of;
 use task::records::cost;

@@ -1,5 +1,8 @@
-// The answers of check, writer, walk and question as callers in C get them: document 01's number and two values.
+// The answers of check, writer, walk, question and search as callers in C get them: document 01's number and two values, or a listing's figures.
 use question::Answered;
+use search_answer::Listing;
+use search_answer::Searched;
+use shift_time::time_of;
 use task_check::Checked;
 use walk::Walked;
 use walk::fault_number;
@@ -9,7 +12,9 @@ ghost use Rattle.task_check.specs.Answers.{answer};
 ghost use Rattle.writer.specs.Answers.{numbers as writeNumbers};
 ghost use Rattle.walk.specs.Answers.{numbers as walkNumbers};
 ghost use Rattle.question.specs.Answers.{numbers as questionNumbers};
+ghost use Rattle.search_answer.specs.Answers.{noFigures};
 ghost use Rattle.reports.specs.Reported.{reported, checkNumbers};
+ghost use Rattle.reports.specs.Totals.{totalsWith, totalsOf};
 
 // An answer as C gets it: document 01's number, and two values.
 #[repr(C)]
@@ -74,5 +79,70 @@ pub fn of_question(told: Answered) -> Report
         Answered::Refused { number, place } => reply(number as u64, place as u64, 0),
         Answered::Least { cost } => reply(0, cost as u64, 1),
         Answered::NotReached => reply(0, 0, 0),
+    }
+}
+
+// What a search reports: a refusal's number and value, or 0, 0 and the figures of the listing.
+#[repr(C)]
+pub struct Totals {
+    pub number: u64,
+    pub value: u64,
+    pub utility: u64,
+    pub ceiling: u64,
+    pub cost: u64,
+    pub bound: u64,
+    pub minutes: u64,
+    pub units: u64,
+    pub unused: u64,
+    pub nodes: u64,
+    pub entries: u64,
+    pub steps: u64,
+}
+
+// A number, a value, and the figures of a listing with its time.
+fn totals_with(number: u64, value: u64, found: Listing) -> Totals
+    ensures { λ r. ⌜ r ≡ totalsWith number value found ⌝ }
+{
+    let time = time_of(found.cost, found.bound);
+    Totals {
+        number,
+        value,
+        utility: found.utility as u64,
+        ceiling: found.ceiling as u64,
+        cost: found.cost as u64,
+        bound: found.bound as u64,
+        minutes: time.minutes as u64,
+        units: time.units as u64,
+        unused: time.unused as u64,
+        nodes: found.nodes as u64,
+        entries: found.entries as u64,
+        steps: found.steps as u64,
+    }
+}
+
+// The figures after a refusal.
+fn no_figures() -> Listing
+    ensures { λ r. ⌜ r ≡ noFigures ⌝ }
+{
+    Listing {
+        utility: 0,
+        ceiling: 0,
+        cost: 0,
+        bound: 0,
+        nodes: 0,
+        entries: 0,
+        steps: 0,
+    }
+}
+
+// The search: the refusal's number and value, or 0, 0 and the figures of the listing.
+pub fn of_search(told: Searched) -> Totals
+    ensures { λ r. ⌜ r ≡ totalsOf told ⌝ }
+{
+    match told {
+        Searched::Refused { number, place } => {
+            totals_with(number as u64, place as u64, no_figures())
+        }
+        Searched::Found(found) => totals_with(0, 0, found),
     }
 }

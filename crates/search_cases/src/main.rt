@@ -3,7 +3,7 @@
 // 1,048,577 entries are lent from C (tests/c/supervisor.c): three of them are more than a program's stack holds.
 mod show;
 
-use search::search::search;
+use search::search;
 
 // The entries of each list, of which a case lends the first few.
 const ROOM: usize = 256;

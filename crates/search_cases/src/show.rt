@@ -1,6 +1,6 @@
 // Writes a search's answer on a line behind the case's name.
-use search::answer::Listing;
-use search::answer::Searched;
+use search_answer::Listing;
+use search_answer::Searched;
 use shift_time::Time;
 use shift_time::time_of;
 use stand::refused;

@@ -22,11 +22,11 @@ use Rattle.walk.specs.declared.Walked.the-variants.{Reached}
 use Rattle.walk.specs.Walk.{walkOf, stopsAt}
 use Rattle.walk.specs.Answers.{numbers}
 use Rattle.walk.proofs.Cases.{checks, walks}
-use Rattle.search.specs.declared.answer.Searched.{Searched}
-use Rattle.search.specs.declared.answer.Searched.the-variants.{Refused, Found}
-use Rattle.search.specs.Lent.{Lent, lent}
-use Rattle.search.specs.Search.{anyWrong, madeOf, setsOf, searchOf}
-use Rattle.search.proofs.Table as searches
+use Rattle.search_answer.specs.declared.Searched.{Searched}
+use Rattle.search_answer.specs.declared.Searched.the-variants.{Refused, Found}
+use Rattle.search_answer.specs.Lent.{Lent, lent}
+use Rattle.search_answer.specs.Search.{anyWrong, madeOf, setsOf, searchOf}
+use Rattle.search_answer.proofs.Table as searches
 use Rattle.shift_time.specs.Time.{timeOf}
 use Rattle.stand_table.proofs.Files.{Holds, files}
 

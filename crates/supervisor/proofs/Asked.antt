@@ -10,10 +10,10 @@ use Rattle.planning.specs.Best.{Cheapest}
 use Rattle.task.specs.Decode.{taskOf}
 use Rattle.lent_lists.specs.Lists.{listsWrong}
 use Rattle.lent_lists.proofs.Passing.{or-neither}
-use Rattle.search.specs.declared.answer.Listing.{Listing}
-use Rattle.search.specs.declared.answer.Searched.the-variants.{Found}
-use Rattle.search.specs.Lent.{Lent}
-use Rattle.search.specs.Search.{listingOf, anyWrong, Searches}
+use Rattle.search_answer.specs.declared.Listing.{Listing}
+use Rattle.search_answer.specs.declared.Searched.the-variants.{Found}
+use Rattle.search_answer.specs.Lent.{Lent}
+use Rattle.search_answer.specs.Search.{listingOf, anyWrong, Searches}
 use Rattle.search.proofs.Demands.{PassedTests, passed}
 use Rattle.search_theory.specs.Made.{nodeCount}
 use Rattle.question.specs.declared.Answered.{Answered}

@@ -3,15 +3,16 @@ use Prim.Native.Nat.{ℕ}
 use mathlib.Core.Path.{_≡_, ap, subst, _∙_}
 use mathlib.Core.List.{List}
 use Rattle.task.specs.Decode.{taskOf}
-use Rattle.search.specs.Lent.{Lent}
-use Rattle.search.specs.Search.{Leaves, Searches}
-use Rattle.search.specs.declared.answer.Searched.{Searched}
+use Rattle.search_answer.specs.Lent.{Lent}
+use Rattle.search_answer.specs.Search.{Leaves, Searches}
+use Rattle.search_answer.specs.declared.Searched.{Searched}
 use lib.ListN.{length}
 use Rattle.writer.specs.declared.Written.{Written}
 use Rattle.writer.specs.Write.{writeOf, leaves}
 use Rattle.writer.specs.Answers.{numbers as writeNumbers}
-use Rattle.supervisor.specs.Reports.{totalsOf, Reports}
-use Rattle.supervisor.specs.declared.Totals.{Totals}
+use Rattle.reports.specs.Totals.{totalsOf}
+use Rattle.supervisor.specs.Reports.{Reports}
+use Rattle.reports.specs.declared.Totals.{Totals}
 
 pub search-is : (w : Searched) (f : List ℕ) (before after : Lent) (x : Totals) → Searches f before after w → x ≡ totalsOf w → Reports f before after x
 search-is w f before after x s r = record {

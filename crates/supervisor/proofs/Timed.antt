@@ -4,17 +4,18 @@ use Prim.Native.Nat.{ℕ}
 use mathlib.Core.Path.{_≡_, refl, sym}
 use mathlib.Core.List.{List}
 use native.Mathlib.Omega.{arith}
-use Rattle.search.specs.declared.answer.Listing.{Listing}
-use Rattle.search.specs.declared.answer.Searched.{Searched}
-use Rattle.search.specs.declared.answer.Searched.the-variants.{Refused, Found}
-use Rattle.search.specs.Lent.{Lent}
-use Rattle.search.specs.Search.{searchOf}
+use Rattle.search_answer.specs.declared.Listing.{Listing}
+use Rattle.search_answer.specs.declared.Searched.{Searched}
+use Rattle.search_answer.specs.declared.Searched.the-variants.{Refused, Found}
+use Rattle.search_answer.specs.Lent.{Lent}
+use Rattle.search_answer.specs.Search.{searchOf}
 use Rattle.search.proofs.Demands.{search-within}
 use Rattle.shift_time.specs.declared.Time.{Time}
 use Rattle.shift_time.specs.Time.{timeOf, TellsTime}
 use Rattle.shift_time.proofs.Words.{time-tells}
-use Rattle.supervisor.specs.declared.Totals.{Totals}
-use Rattle.supervisor.specs.Reports.{totalsOf, Reports}
+use Rattle.reports.specs.declared.Totals.{Totals}
+use Rattle.reports.specs.Totals.{totalsOf}
+use Rattle.supervisor.specs.Reports.{Reports}
 
 -- of the figures of a search that found a plan
 pub search-time : (f : List ℕ) (before : Lent) (l : Listing) → Found l ≡ searchOf f before → TellsTime (l .cost) (l .bound) (timeOf (l .cost) (l .bound))

@@ -1,36 +1,12 @@
--- A search's answer as C gets it: document 01's number and value, and the figures.
-use Prim.Native.Nat.{ℕ}
+-- What the search for C promises.
 use mathlib.Core.Path.{_≡_}
+use Prim.Native.Nat.{ℕ}
 use mathlib.Core.List.{List}
 use Rattle.task.specs.Decode.{taskOf}
-use Rattle.search.specs.declared.answer.Listing.{Listing}
-use Rattle.search.specs.declared.answer.Searched.{Searched}
-use Rattle.search.specs.Lent.{Lent}
-use Rattle.search.specs.Answers.{numbers, figures}
-use Rattle.search.specs.Search.{searchOf, Leaves}
-use Rattle.shift_time.specs.Time.{timeOf}
-use Rattle.supervisor.specs.declared.Totals.{Totals}
-
--- a number, a value, and the figures of a listing with its time
-abbrev pub totalsWith : ℕ → ℕ → Listing → Totals
-totalsWith number value l = record {
-  number = number;
-  value = value;
-  utility = l .utility;
-  ceiling = l .ceiling;
-  cost = l .cost;
-  bound = l .bound;
-  minutes = timeOf (l .cost) (l .bound) .minutes;
-  units = timeOf (l .cost) (l .bound) .units;
-  unused = timeOf (l .cost) (l .bound) .unused;
-  nodes = l .nodes;
-  entries = l .entries;
-  steps = l .steps;
-}
-
--- the search's number and value, and the figures of the listing, all 0 after a refusal
-abbrev pub totalsOf : Searched → Totals
-totalsOf r = totalsWith (numbers r .0) (numbers r .1) (figures r)
+use Rattle.search_answer.specs.Lent.{Lent}
+use Rattle.search_answer.specs.Search.{searchOf, Leaves}
+use Rattle.reports.specs.declared.Totals.{Totals}
+use Rattle.reports.specs.Totals.{totalsOf}
 
 -- the totals are those of the definition's answer, and the lists hold what it says
 pub record Reports (f : List ℕ) (before after : Lent) (r : Totals) : Type 0 where

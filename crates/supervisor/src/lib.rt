@@ -1,14 +1,13 @@
 // The file check, the writer, the walk, the search and the question for callers in C; include/laurelsnap.h describes them there.
 use question::question;
 use reports::Report;
+use reports::Totals;
 use reports::of_check;
 use reports::of_question;
+use reports::of_search;
 use reports::of_walk;
 use reports::of_write;
-use search::answer::Listing;
-use search::answer::Searched;
-use search::search::search;
-use shift_time::time_of;
+use search::search;
 use task_check::check;
 use walk::walk;
 use writer::write;
@@ -19,12 +18,11 @@ ghost use Rattle.writer.specs.Write.{writeOf, leaves};
 ghost use Rattle.writer.specs.Answers.{numbers as writeNumbers};
 ghost use Rattle.walk.specs.Walk.{walkOf};
 ghost use Rattle.walk.specs.Answers.{numbers as walkNumbers};
-ghost use Rattle.search.specs.Lent.{lent};
-ghost use Rattle.search.specs.Answers.{noFigures};
+ghost use Rattle.search_answer.specs.Lent.{lent};
 ghost use Rattle.question.specs.Question.{questionOf};
 ghost use Rattle.question.specs.Answers.{numbers as questionNumbers};
 ghost use Rattle.reports.specs.Reported.{reported, checkNumbers};
-ghost use Rattle.supervisor.specs.Reports.{totalsWith, totalsOf, Reports};
+ghost use Rattle.supervisor.specs.Reports.{Reports};
 
 // The file check: 0, or the refusal's number and value.
 #[no_mangle]
@@ -55,71 +53,6 @@ pub extern "C" fn laurelsnap_walk(file: &[u8], plan: &[u8]) -> Report
     of_walk(walk(file, plan))
 }
 
-// What a search reports: a refusal's number and value, or 0, 0 and the figures of the listing.
-#[repr(C)]
-pub struct Totals {
-    pub number: u64,
-    pub value: u64,
-    pub utility: u64,
-    pub ceiling: u64,
-    pub cost: u64,
-    pub bound: u64,
-    pub minutes: u64,
-    pub units: u64,
-    pub unused: u64,
-    pub nodes: u64,
-    pub entries: u64,
-    pub steps: u64,
-}
-
-// A number, a value, and the figures of a listing with its time.
-fn totals_with(number: u64, value: u64, found: Listing) -> Totals
-    ensures { λ r. ⌜ r ≡ totalsWith number value found ⌝ }
-{
-    let time = time_of(found.cost, found.bound);
-    Totals {
-        number,
-        value,
-        utility: found.utility as u64,
-        ceiling: found.ceiling as u64,
-        cost: found.cost as u64,
-        bound: found.bound as u64,
-        minutes: time.minutes as u64,
-        units: time.units as u64,
-        unused: time.unused as u64,
-        nodes: found.nodes as u64,
-        entries: found.entries as u64,
-        steps: found.steps as u64,
-    }
-}
-
-// The figures after a refusal.
-fn no_figures() -> Listing
-    ensures { λ r. ⌜ r ≡ noFigures ⌝ }
-{
-    Listing {
-        utility: 0,
-        ceiling: 0,
-        cost: 0,
-        bound: 0,
-        nodes: 0,
-        entries: 0,
-        steps: 0,
-    }
-}
-
-// The totals of a search's answer.
-fn totals_of(answer: Searched) -> Totals
-    ensures { λ r. ⌜ r ≡ totalsOf answer ⌝ }
-{
-    match answer {
-        Searched::Refused { number, place } => {
-            totals_with(number as u64, place as u64, no_figures())
-        }
-        Searched::Found(found) => totals_with(0, 0, found),
-    }
-}
-
 // The search for the best plan.
 #[no_mangle]
 pub extern "C" fn laurelsnap_search(
@@ -143,7 +76,7 @@ pub extern "C" fn laurelsnap_search(
         (now (heads .exit)) (now (chain .exit)) (now (memo .exit)) (now (plan .exit)) in
         ⌜ Reports (now (file .entry)) before after r ⌝ }
 {
-    totals_of(search(
+    of_search(search(
         file,
         levels,
         bit,

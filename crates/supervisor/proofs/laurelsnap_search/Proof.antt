@@ -7,11 +7,11 @@ use Rattle.supervisor.proofs.laurelsnap_search.Tie as tie
 search-requires : tie.Need-search-requires
 search-requires c κs = search needs
 
-totals-of-requires : tie.Need-totals-of-requires
-totals-of-requires c κs = search needs
+of-search-requires : tie.Need-of-search-requires
+of-search-requires c κs = search needs
 
 -- the call of the search
-abbrev searched : tie.After-totals-of → tie.After-search
+abbrev searched : tie.After-of-search → tie.After-search
 searched c = c .before .before .before .before .before .before .before .before .before .before .before .before .before .before .before .before .before .before .before .before .before .before .before
 
 same-length : tie.Need-same-length
@@ -48,14 +48,14 @@ same-length-11 : tie.Need-same-length-11
 same-length-11 c = searched c .search .kept .1 .1 .1 .1 .1 .1 .1 .1 .1 .1 .1 .0
 
 returns : tie.Need-returns
-returns c = search-is _ _ _ _ _ (searched c .search .ensures) (c .totals-of .ensures)
+returns c = search-is _ _ _ _ _ (searched c .search .ensures) (c .of-search .ensures)
 
 pub laurelsnap-search-spec : {M : Type 1} → statement M
 laurelsnap-search-spec =
     tie.close
     (tie.spec
     search-requires
-    totals-of-requires
+    of-search-requires
     same-length
     same-length-2
     same-length-3

@@ -1,7 +1,7 @@
 -- The time is that of the listing's cost and bound.
 use borrow.Author.Needs.{needs}
-use Rattle.supervisor.proofs.totals_with.Statement.{statement}
-use Rattle.supervisor.proofs.totals_with.Tie as tie
+use Rattle.reports.proofs.totals_with.Statement.{statement}
+use Rattle.reports.proofs.totals_with.Tie as tie
 
 time-of-requires : tie.Need-time-of-requires
 time-of-requires c κs = search needs

@@ -8,10 +8,10 @@ use Rattle.planning.specs.Model.{ceiling}
 use Rattle.planning.specs.Cases.{fact, P, Q}
 use Rattle.search_theory.proofs.Table.{P-0, P-1, P-2, Q-3, Q-4, Q-5}
 use Rattle.utility.proofs.Cases.{entries-P, entries-Q}
-use Rattle.search.specs.declared.answer.Searched.{Searched}
-use Rattle.search.specs.declared.answer.Searched.the-variants.{Refused, Found}
-use Rattle.search.specs.Lent.{Lent, lent}
-use Rattle.search.specs.Search.{listingOf, setsOf, madeOf}
+use Rattle.search_answer.specs.declared.Searched.{Searched}
+use Rattle.search_answer.specs.declared.Searched.the-variants.{Refused, Found}
+use Rattle.search_answer.specs.Lent.{Lent, lent}
+use Rattle.search_answer.specs.Search.{listingOf, setsOf, madeOf}
 
 -- lists of n node entries, six utility entries and p steps
 abbrev lists : ℕ → ℕ → Lent

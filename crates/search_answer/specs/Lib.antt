@@ -1,7 +1,5 @@
 -- The definitions of the search: what is lent, the answer, what the lists hold afterwards, and what an answer means.
 pub mod Lent
-pub mod Permitted
 pub mod Answers
 pub mod Search
-pub mod PlanAnswer
 pub mod Meaning

@@ -1,12 +1,12 @@
 -- Each case of the answer has its number and figures.
 use borrow.Author.Needs.{needs}
 use mathlib.Core.Path.{sym, ap, _∙_}
-use Rattle.supervisor.specs.Reports.{totalsWith, totalsOf}
-use Rattle.supervisor.proofs.totals_of.Statement.{statement}
-use Rattle.supervisor.proofs.totals_of.Tie as tie
+use Rattle.reports.specs.Totals.{totalsWith, totalsOf}
+use Rattle.reports.proofs.of_search.Statement.{statement}
+use Rattle.reports.proofs.of_search.Tie as tie
 
-enum-known-answer : tie.Need-enum-known-answer
-enum-known-answer c = search needs
+enum-known-told : tie.Need-enum-known-told
+enum-known-told c = search needs
 
 cast-totals-with : tie.Need-cast-totals-with
 cast-totals-with c = search needs
@@ -20,8 +20,8 @@ no-figures-requires c κs = search needs
 totals-with-requires : tie.Need-totals-with-requires
 totals-with-requires c κs = search needs
 
-enum-known-answer-2 : tie.Need-enum-known-answer-2
-enum-known-answer-2 c = search needs
+enum-known-told-2 : tie.Need-enum-known-told-2
+enum-known-told-2 c = search needs
 
 totals-with-requires-2 : tie.Need-totals-with-requires-2
 totals-with-requires-2 c κs = search needs
@@ -29,21 +29,21 @@ totals-with-requires-2 c κs = search needs
 returns : tie.Need-returns
 returns c = c .totals-with .ensures
     ∙ ap (totalsWith _ _) (c .before .no-figures .ensures)
-    ∙ ap totalsOf (sym (c .before .before .before .answer .given .1))
+    ∙ ap totalsOf (sym (c .before .before .before .told .given .1))
 
 returns-2 : tie.Need-returns-2
-returns-2 c = c .totals-with2 .ensures ∙ ap totalsOf (sym (c .before .before .answer2 .given .1))
+returns-2 c = c .totals-with2 .ensures ∙ ap totalsOf (sym (c .before .before .told2 .given .1))
 
-pub totals-of-spec : {M : Type 1} → statement M
-totals-of-spec =
+pub of-search-spec : {M : Type 1} → statement M
+of-search-spec =
     tie.close
     (tie.spec
-    enum-known-answer
+    enum-known-told
     cast-totals-with
     cast-totals-with-2
     no-figures-requires
     totals-with-requires
-    enum-known-answer-2
+    enum-known-told-2
     totals-with-requires-2
     returns
     returns-2)
