@@ -34,7 +34,7 @@ pub fn highest(
     ensures { λ r. ⌜ FindsOptimum (taskOf (now (file .entry))) (nodes (now (bit .entry)) (now (low .entry)) (now (high .entry)) count) (now (memo .exit)) r ⌝ }
 {
     let b = bound(file);
-    let stamp = diagram_memo::stamp(memo);
+    let stamp = diagram_stamps::stamp(memo);
     let mut top = utility_greatest::most(
         bit,
         low,

@@ -34,7 +34,7 @@ fn add_term(
     let cube = task_states::model::term_cube(file, t);
     let weight = task_states::model::term_weight(file, t) as u32;
     diagram_memo::widen(memo, count);
-    let stamp = diagram_memo::stamp(memo);
+    let stamp = diagram_stamps::stamp(memo);
     utility_add::add(
         bit,
         low,

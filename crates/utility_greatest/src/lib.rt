@@ -152,7 +152,7 @@ pub fn greatest(
         let x = nodes (now (ubit .entry)) (now (ulow .entry)) (now (uhigh .entry)) ucount in
         ⌜ Greatest s x (now (memo .exit)) a u r ⌝ }
 {
-    let stamp = diagram_memo::stamp(memo);
+    let stamp = diagram_stamps::stamp(memo);
     most(
         bit,
         low,
