@@ -2,7 +2,7 @@
 ghost use mathlib.Core.Path.{_≡_};
 ghost use Prim.Native.Nat.{_+_, _<_, _≤_};
 ghost use lib.ListN.{length, set, replicate};
-ghost use Rattle.walk.specs.Cases.{header, fileP, fileQ, filePlain};
+ghost use Rattle.task.specs.Cases.{header, fileP, fileQ, filePlain};
 ghost use Rattle.stand.specs.Bytes.{overlay, put16, putSizes};
 
 // Writes a byte, if there is such a place.

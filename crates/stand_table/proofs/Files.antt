@@ -12,7 +12,7 @@ use Rattle.task.specs.Bytes.{byte, le16, le32, part}
 use Rattle.task.specs.Format.{variableRecord, operatorRecord, termRecord, effects}
 use Rattle.task.specs.Decode.{facts, sizes, taskOf}
 use Rattle.task.specs.Check.{letterRight, lettersRight, lengthRight, countsRight, sectionInside, apart, allInside, allApart, headerFault, namesVariable, hasValue, rises, usedRight, unusedRight, factRight, factsRight, variableRight, costRight, factCountsRight, preconditionsRight, effectsRight, operatorRecordRight, operatorRight, termCountsRight, termFactsRight, termRecordRight, termRight, checkOf, accepted}
-use Rattle.walk.specs.Cases.{fileP, fileQ}
+use Rattle.task.specs.Cases.{fileP, fileQ}
 
 -- the file is accepted and holds the task
 pub record Holds (f : List ℕ) (t : Task) : Type 0 where

@@ -16,7 +16,7 @@ use Rattle.task.specs.Decode.{taskOf}
 use Rattle.lent_lists.specs.Lists.{levelsShort, listsWrong}
 use Rattle.search_theory.specs.Plan.{planOf}
 use Rattle.search_theory.proofs.Table as sets
-use Rattle.walk.specs.Cases.{header, operator, fileP, fileQ, fileOf}
+use Rattle.task.specs.Cases.{header, operator, fileP, fileQ, fileOf}
 use Rattle.walk.specs.declared.Fault.the-variants.{Operator, Precondition, Bound}
 use Rattle.walk.specs.declared.Walked.the-variants.{Reached}
 use Rattle.walk.specs.Walk.{walkOf, stopsAt}

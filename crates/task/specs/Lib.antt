@@ -5,3 +5,4 @@ pub mod Format
 pub mod Decode
 pub mod Check
 pub mod Sound
+pub mod Cases

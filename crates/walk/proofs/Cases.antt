@@ -14,7 +14,7 @@ use Rattle.walk.specs.declared.Fault.the-variants.{Operator, Preconditio
 use Rattle.walk.specs.declared.Walked.{Walked}
 use Rattle.walk.specs.declared.Walked.the-variants.{Odd, Reached}
 use Rattle.walk.specs.Walk.{stopsAt, walkFrom, walkOf}
-use Rattle.walk.specs.Cases.{header, operator, fileP, fileQ, fileOf}
+use Rattle.task.specs.Cases.{header, operator, fileP, fileQ, fileOf}
 
 -- the file check: P and Q; 16 and 17 values; cost 0; 48 and 49 bits; no bytes
 pub checks :

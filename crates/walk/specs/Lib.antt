@@ -1,4 +1,3 @@
 pub mod Walk
 pub mod Answers
 pub mod Meaning
-pub mod Cases
