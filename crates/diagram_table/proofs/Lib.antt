@@ -1,3 +1,4 @@
 -- Laws that belong to no one function.
-pub mod Chains
+pub mod Laws
+pub mod Linking
 pub mod Nodes
