@@ -6,7 +6,7 @@ use native.Mathlib.Omega.{arith}
 use lib.ListN.{length}
 use Rattle.search_answer.specs.declared.Searched.{Searched}
 use Rattle.search_answer.specs.Lent.{Lent}
-use Rattle.search_answer.specs.Search.{Searches}
+use Rattle.search.specs.Leaves.{Searches}
 use Rattle.search.proofs.Demands.{passed}
 use Rattle.osp_list.specs.StepsFit.{StepsFit}
 

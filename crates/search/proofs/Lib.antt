@@ -1,3 +1,6 @@
 -- Laws that belong to no one function.
+mod Inside
+mod Late
+mod Outcome
 mod Answers
 pub mod Demands

@@ -1,5 +1,4 @@
--- The definitions of the search: what is lent, the answer, what the lists hold afterwards, and what an answer means.
+-- The definitions of a search's answer: what is lent, and what is answered.
 pub mod Lent
 pub mod Answers
 pub mod Search
-pub mod Meaning

@@ -13,7 +13,8 @@ use Rattle.lent_lists.proofs.Passing.{or-neither}
 use Rattle.search_answer.specs.declared.Listing.{Listing}
 use Rattle.search_answer.specs.declared.Searched.the-variants.{Found}
 use Rattle.search_answer.specs.Lent.{Lent}
-use Rattle.search_answer.specs.Search.{listingOf, anyWrong, Searches}
+use Rattle.search_answer.specs.Search.{listingOf, anyWrong}
+use Rattle.search.specs.Leaves.{Searches}
 use Rattle.search.proofs.Demands.{PassedTests, passed}
 use Rattle.search_theory.specs.Made.{nodeCount}
 use Rattle.question.specs.declared.Answered.{Answered}

@@ -4,7 +4,7 @@ use mathlib.Core.Path.{_≡_, ap, subst, _∙_}
 use mathlib.Core.List.{List}
 use Rattle.task.specs.Decode.{taskOf}
 use Rattle.search_answer.specs.Lent.{Lent}
-use Rattle.search_answer.specs.Search.{Leaves, Searches}
+use Rattle.search.specs.Leaves.{Leaves, Searches}
 use Rattle.search_answer.specs.declared.Searched.{Searched}
 use lib.ListN.{length}
 use Rattle.writer.specs.declared.Written.{Written}

@@ -4,7 +4,8 @@ use Prim.Native.Nat.{ℕ}
 use mathlib.Core.List.{List}
 use Rattle.task.specs.Decode.{taskOf}
 use Rattle.search_answer.specs.Lent.{Lent}
-use Rattle.search_answer.specs.Search.{searchOf, Leaves}
+use Rattle.search_answer.specs.Search.{searchOf}
+use Rattle.search.specs.Leaves.{Leaves}
 use Rattle.reports.specs.declared.Totals.{Totals}
 use Rattle.reports.specs.Totals.{totalsOf}
 
