@@ -1,6 +1,10 @@
-// The answer of a search, and the definitions of it: what is lent, what is answered, what the lists hold afterwards.
+// The answer of a search; specs/ defines it, from the file and the lengths of the lent lists.
+use task::header::bound;
+use task_states::model::ceiling;
 ghost use mathlib.Core.Path.{_≡_};
+ghost use Rattle.task.specs.Decode.{taskOf};
 ghost use Rattle.search_answer.specs.declared.Searched.the-variants.{Refused};
+ghost use Rattle.search_answer.specs.Search.{figuresOf};
 
 // The figures of the listing, and the number of the plan's steps.
 pub struct Listing {
@@ -24,4 +28,19 @@ pub fn refusal(number: u8) -> Searched
     ensures { λ r. ⌜ r ≡ Refused number 0 ⌝ }
 {
     Searched::Refused { number, place: 0 }
+}
+
+// The figures of a task file whose sets are made; there is no plan yet.
+pub fn figures(file: &[u8], utility: usize, cost: usize, nodes: usize, entries: usize) -> Listing
+    ensures { λ r. ⌜ r ≡ figuresOf (taskOf (now (file .entry))) utility cost nodes entries ⌝ }
+{
+    Listing {
+        utility,
+        ceiling: ceiling(file),
+        cost,
+        bound: bound(file),
+        nodes,
+        entries,
+        steps: 0,
+    }
 }
