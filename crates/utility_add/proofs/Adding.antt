@@ -29,7 +29,9 @@ use Rattle.cube_bits.specs.Following.{Following}
 use Rattle.cube_bits.proofs.Words.{following-later}
 use Rattle.utility.specs.Adding.{addAt}
 use Rattle.utility_add.specs.Adds.{Asks, Added, Adds}
-use Rattle.utility_add.specs.Adding.{Addable, adding, Ends, Cuts}
+use Rattle.cube_bits.specs.Cuts.{Parts}
+use Rattle.cube_bits.proofs.Cutting.{bit-below}
+use Rattle.utility_add.specs.Adding.{Addable, adding, Ends}
 use Rattle.utility_add.specs.Sums.{addFrom}
 use Rattle.utility_add.proofs.Sums.{from-outside, from-none, from-all, from-end, from-sum, from-canon, from-root, from-bit, under-sides}
 
@@ -54,14 +56,6 @@ not-true false e = refl
 pub not-false : (f : Bool) → not f ≡ false → f ≡ true
 not-false true e = refl
 not-false false e = absurd (no-both refl e)
-
--- a bit that an end value does not come before
-pub bit-below : (k b : ℕ) → k ≤ 64 → (k ≡ 64 → b < 64) → k ≤ b → k < 64
-bit-below k b le past ge =
-    ⊎-elim
-    (λ (z : ltb k 64 ≡ true). ltb-true k 64 z)
-    (λ (z : ltb k 64 ≡ false). let n = ltb-false k 64 z in absurd (omega (arith, past (omega arith), ge, n)))
-    (test (ltb k 64))
 
 -- what is asked at the beginning, and what is then made
 pub asks-fit : (s : Table) (k care w a y : ℕ) → Asks s k care w a → Following care k y → Addable care w s 0 a y
@@ -132,7 +126,7 @@ module _ (s : Table) (st : Store s) (care value w n x k : ℕ) (f : Addable care
     unfolding named
     end-sum e ge = rw inner (from-end care value w k b (tree s l) (tree s h) e ge)
 
-    module _ (small : care < 281474976710656) (inside : k ≡ 65 → ⊥) (past : k ≡ 64 → b < 64) (p : Split) (c : Cuts (s .bit) (s .low) (s .high) care value x k p) where
+    module _ (small : care < 281474976710656) (inside : k ≡ 65 → ⊥) (past : k ≡ 64 → b < 64) (p : Split) (c : Parts (s .bit) (s .low) (s .high) care value x k p) where
       next : Following care (f .level) k
       next = ⊎-elim (λ (e : k ≡ 65). absurd (inside e)) (λ (y : Following care (f .level) k). y) (f .next)
 

@@ -17,7 +17,7 @@ use Rattle.cube_bits.proofs.Words.{word-later, word-bits, uncared-within, follo
 use Rattle.utility.specs.Adding.{plusT, digit, lowIn, highIn, addT}
 use Rattle.utility.proofs.Adds.{add-none, add-all, add-plain, canon-add}
 use Rattle.utility_add.specs.Sums.{levelT, addFrom}
-use Rattle.utility_add.specs.Adding.{Sides}
+use Rattle.cube_bits.specs.Cuts.{Sides}
 
 -- nothing is added
 pub from-outside : (care value w k : ℕ) (t : Tree) → k ≡ 65 → addFrom care value w k t ≡ t

@@ -5,13 +5,11 @@ use mathlib.Core.Logic.{_⊎_}
 use mathlib.Core.List.{List}
 use lib.ListN.{getD}
 use Rattle.diagrams.specs.Tree.{Canon, Under}
-use Rattle.diagrams.specs.Store.{Table, table, blank, tree, Store, childN}
+use Rattle.diagrams.specs.Store.{Table, table, blank, tree, Store}
 use Rattle.diagrams.specs.Memo.{Stamped}
-use Rattle.diagrams.specs.declared.Split.{Split}
 use Rattle.cube_bits.specs.Following.{Following}
 use Rattle.diagram_loops.specs.Loops.{Operation, Looked}
 use Rattle.diagram_loops.specs.declared.Look.{Look}
-use Rattle.utility.specs.Adding.{digit}
 use Rattle.utility_add.specs.Adds.{Added}
 use Rattle.utility_add.specs.Sums.{addFrom}
 
@@ -37,17 +35,6 @@ adding care value w =
 pub record Ends (bit : List ℕ) (x k r : ℕ) : Type 0 where
   pub some : (r ≡ 0 → ⊥) → (k ≡ 64) × ((2 ≤ x) × ((64 ≤ r) × (r ≡ getD bit (x - 2) 0)))
   pub none : r ≡ 0 → k ≡ 64 → 2 ≤ x → getD bit (x - 2) 0 < 64
-
--- the sides of the bit k, for which the cube cares: it has states on one of them, and l and h are the bits that it cares for next
-abbrev pub Sides : ℕ → ℕ → ℕ → ℕ → ℕ → Type 0
-Sides care value k l h = ((digit value k ≡ 0) × (Following care (k + 1) l × (h ≡ 65))) ⊎ ((digit value k ≡ 1) × ((l ≡ 65) × Following care (k + 1) h))
-
--- the name x parted at its root bit, or at the next bit k that the cube cares for where that comes no later
-pub record Cuts (bit low high : List ℕ) (care value x k : ℕ) (p : Split) : Type 0 where
-  pub a-low : p .al ≡ childN bit low (p .bit) x
-  pub a-high : p .ah ≡ childN bit high (p .bit) x
-  pub root : getD bit (x - 2) 0 < k → (p .bit ≡ getD bit (x - 2) 0) × ((p .bl ≡ k) × (p .bh ≡ k))
-  pub cared : k ≤ getD bit (x - 2) 0 → (p .bit ≡ k) × Sides care value k (p .bl) (p .bh)
 
 -- what a look at a name shows, in whatever table with these lists the name is one and the memo is right
 pub record Looks (bit low high memo : List ℕ) (stamp care value x k : ℕ) (r : Look) : Type 0 where
