@@ -1,4 +1,4 @@
-"""The benchmark's task families, each with three sizes of about 10^4, 10^5 and 10^6 nodes.
+"""The benchmark's task families, each with three sizes between 10^4 and 10^6 nodes, and tasks of 10^3, 10^4 and 10^5 pairs.
 
 `python3 bench/families.py FOLDER` writes them all as FAMILY-SIZE.bpt.
 """
@@ -125,8 +125,9 @@ def sliding(width, height, bound):
     return b.task
 
 
-def logistics(places, trucks, parcels, bound):
-    """Trucks on a ring of places carry parcels; a parcel's value past the places is the truck it is on."""
+def logistics(places, trucks, parcels, bound, handling=1):
+    """Trucks on a ring of places carry parcels; a parcel's value past the places is the truck it is on. Loading and unloading cost as
+    much as `handling` says."""
     dice = random.Random(3)
     b = Builder(bound)
     for t in range(trucks):
@@ -137,30 +138,48 @@ def logistics(places, trucks, parcels, bound):
         for x in range(places):
             b.operator(2 + t, {f"t{t}": x}, {f"t{t}": (x + 1) % places})
             for p in range(parcels):
-                b.operator(1, {f"t{t}": x, f"p{p}": x}, {f"p{p}": places + t})
-                b.operator(1, {f"t{t}": x, f"p{p}": places + t}, {f"p{p}": x})
+                b.operator(handling, {f"t{t}": x, f"p{p}": x}, {f"p{p}": places + t})
+                b.operator(handling, {f"t{t}": x, f"p{p}": places + t}, {f"p{p}": x})
     for p in range(parcels):
         b.term(dice.randint(5, 9), **{f"p{p}": dice.randrange(places)})
     return b.task
 
 
+def odometer(pairs):
+    """A counter of five decimal digits that goes on for nothing and ends at its last number, so many numbers away: a pair for each."""
+    b = Builder(0)
+    digits = [f"d{k}" for k in range(5)]
+    for digit, start in zip(digits, f"{100_000 - pairs:05d}"):
+        b.variable(digit, 10, int(start))
+    for k, digit in enumerate(digits):
+        lower = digits[k + 1:]
+        for x in range(9):
+            b.operator(0, {digit: x, **{d: 9 for d in lower}}, {digit: x + 1, **{d: 0 for d in lower}})
+    for digit in digits:
+        b.term(1, **{digit: 9})
+    return b.task
+
+
 FAMILIES = {
-    "switches": [switches(14, 12, 45), switches(26, 12, 90), switches(32, 30, 400)],
-    "counters": [counters(4, 8, 20), counters(6, 16, 40), counters(8, 16, 66)],
-    "chains": [chains(5, 8, 24), chains(6, 10, 42), chains(8, 12, 110)],
-    "warehouse": [warehouse(4, 4, 1, (5, 6, 9), 13), warehouse(4, 4, 1, (5, 6, 9), 30), warehouse(4, 4, 2, (5, 6, 9), 20)],
+    "switches": [switches(14, 12, 45), switches(26, 12, 90), switches(32, 30, 139)],
+    "counters": [counters(4, 8, 20), counters(6, 16, 40), counters(8, 16, 31)],
+    "chains": [chains(5, 8, 24), chains(6, 10, 42), chains(8, 12, 75)],
+    "warehouse": [warehouse(4, 4, 1, (5, 6, 9), 13), warehouse(4, 4, 1, (5, 6, 9), 30), warehouse(4, 4, 2, (5, 6, 9), 19)],
     "sliding": [sliding(3, 2, 10), sliding(3, 3, 10), sliding(3, 3, 16)],
-    "logistics": [logistics(4, 2, 4, 12), logistics(4, 2, 6, 17), logistics(5, 2, 7, 34)],
+    "logistics": [logistics(4, 2, 4, 12), logistics(4, 2, 6, 17), logistics(5, 2, 7, 32)],
+    "couriers": [logistics(4, 2, 4, 9, 0), logistics(4, 2, 6, 14, 0), logistics(5, 2, 7, 23, 0)],
 }
+# the same moves over more and more pairs
+PAIRS = {f"odometer-{pairs}": odometer(pairs) for pairs in (1_000, 10_000, 100_000)}
 
 
 def main(folder):
     folder.mkdir(parents=True, exist_ok=True)
-    for name, tasks in FAMILIES.items():
-        for size, task in enumerate(tasks, 1):
-            file = encode(task)
-            decode(file)
-            (folder / f"{name}-{size}.bpt").write_bytes(file)
+    tasks = {f"{name}-{size}": task for name, tasks in FAMILIES.items() for size, task in enumerate(tasks, 1)}
+    for name, task in {**tasks, **PAIRS}.items():
+        file = encode(task)
+        decode(file)
+        (folder / f"{name}.bpt").write_bytes(file)
 
 
 if __name__ == "__main__":

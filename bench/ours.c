@@ -5,33 +5,24 @@
 #include "task.h"
 #include <string.h>
 
-enum { ENTRIES = 1048576, LEVELS = BOUND_MOST + 1, STEPS = BOUND_MOST, HEADS = 1 << 20, MEMO = 4 << 20 };
-
-/* A list of so many 32-bit numbers, touched. */
-static uint32_t *list(size_t count) {
-    uint32_t *out = malloc(count * sizeof *out);
-    if (!out) fail("no memory");
-    memset(out, 0xff, count * sizeof *out);
-    return out;
-}
+enum { ENTRIES = 1048576 };
 
 int main(int argc, char **argv) {
     if (argc != 2) fail("usage: ours FILE");
     static unsigned char file[FILE_MOST];
-    static uint16_t plan[STEPS];
     size_t length = read_file(argv[1], file);
-    uint32_t *levels = list(LEVELS), *bit = list(ENTRIES), *low = list(ENTRIES), *high = list(ENTRIES);
-    uint32_t *ubit = list(ENTRIES), *ulow = list(ENTRIES), *uhigh = list(ENTRIES);
-    uint32_t *heads = list(HEADS), *chain = list(ENTRIES), *memo = list(MEMO);
+    struct laurelsnap_room room = {.nodes = ENTRIES, .utility = ENTRIES, .pairs = PAIRS_MOST, .steps = PAIRS_MOST};
+    void *block = malloc(laurelsnap_bytes(room));
+    if (!block) fail("no memory");
+    memset(block, 0xff, laurelsnap_bytes(room));
+    struct laurelsnap_lists lists = laurelsnap_share(room, block);
     double begin = seconds();
-    struct laurelsnap_found found =
-        laurelsnap_search(file, length, levels, LEVELS, bit, ENTRIES, low, ENTRIES, high, ENTRIES, ubit, ENTRIES, ulow, ENTRIES,
-                          uhigh, ENTRIES, heads, HEADS, chain, ENTRIES, memo, MEMO, plan, STEPS);
+    struct laurelsnap_found found = laurelsnap_search_in(file, length, &lists);
     double time = seconds() - begin;
     if (found.number) {
         printf("refused %lu %lu\n", (unsigned long)found.number, (unsigned long)found.value);
         return 0;
     }
-    report(found.utility, found.cost, found.nodes, time, plan, found.steps);
+    report(found.utility, found.cost, found.pairs, found.nodes, time, lists.plan.at, found.steps);
     return 0;
 }

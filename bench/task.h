@@ -8,7 +8,7 @@
 #include <stdlib.h>
 #include <time.h>
 
-enum { FILE_MOST = 16384, OPERATORS_MOST = 256, TERMS_MOST = 256, VARIABLES_MOST = 32, BOUND_MOST = 4095 };
+enum { FILE_MOST = 16384, OPERATORS_MOST = 256, TERMS_MOST = 256, VARIABLES_MOST = 32, BOUND_MOST = 4095, PAIRS_MOST = 1048576 };
 
 typedef struct { uint64_t care, value; } Cube;
 typedef struct { unsigned cost; Cube pre, eff; } Operator;
@@ -90,16 +90,24 @@ static inline int meets(uint64_t state, Cube cube) { return (state & cube.care) 
 
 static inline uint64_t put(uint64_t state, Cube cube) { return (state & ~cube.care) | cube.value; }
 
+/* A pair of cost and steps as one number, in the order of the pairs; an operator's own cost and its one step add to it. */
+static inline uint64_t place(unsigned cost, unsigned steps) { return (uint64_t)cost << 32 | steps; }
+
+static inline unsigned cost_at(uint64_t at) { return (unsigned)(at >> 32); }
+
+static inline uint64_t rise(const Operator *op) { return place(op->cost, 1); }
+
 static inline double seconds(void) {
     struct timespec now;
     clock_gettime(CLOCK_MONOTONIC, &now);
     return now.tv_sec + now.tv_nsec * 1e-9;
 }
 
-/* The line that every planner prints: what it found, how much it made, how long the search alone took, and the plan. */
-static inline void report(unsigned long utility, unsigned long cost, unsigned long made, double time, const uint16_t *plan,
-                          unsigned steps) {
-    printf("utility %lu cost %lu steps %u made %lu seconds %.6f plan", utility, cost, steps, made, time);
+/* The line that every planner prints: what it found, the non-empty pairs, how many nodes or states it made, how long the search alone
+   took, and the plan. */
+static inline void report(unsigned long utility, unsigned long cost, unsigned long pairs, unsigned long made, double time,
+                          const uint16_t *plan, unsigned steps) {
+    printf("utility %lu cost %lu steps %u pairs %lu made %lu seconds %.6f plan", utility, cost, steps, pairs, made, time);
     for (unsigned k = 0; k < steps; k++) printf(" %u", plan[k]);
     printf("\n");
 }

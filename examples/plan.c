@@ -9,18 +9,9 @@
 #include <stdio.h>
 #include <stdlib.h>
 
-enum { FILE_MOST = 16384, ENTRIES = 1048576, LEVELS = 4096, STEPS = 4096, MEMO = 4 * ENTRIES + 4100 };
+enum { FILE_MOST = 16384 };
 
-/* A list of so many 32-bit numbers. What they hold before a search does not matter. */
-static uint32_t *list(size_t count)
-{
-    uint32_t *out = calloc(count, sizeof *out);
-    if (!out) {
-        fprintf(stderr, "no memory\n");
-        exit(2);
-    }
-    return out;
-}
+static const struct laurelsnap_room ROOM = { .nodes = 1048576, .utility = 1048576, .pairs = 1048576, .steps = 1048576 };
 
 /* The file's bytes; one more than a task may have, so that a longer file is refused. */
 static size_t read_task(const char *name, uint8_t *file)
@@ -45,16 +36,18 @@ static unsigned cost_of(const uint8_t *file, unsigned operator)
 int main(int argc, char **argv)
 {
     static uint8_t file[FILE_MOST + 1];
-    static uint16_t plan[STEPS];
     if (argc != 2) {
         fprintf(stderr, "usage: plan FILE\n");
         return 2;
     }
     size_t length = read_task(argv[1], file);
-    struct laurelsnap_found found = laurelsnap_search(file, length, list(LEVELS), LEVELS,
-        list(ENTRIES), ENTRIES, list(ENTRIES), ENTRIES, list(ENTRIES), ENTRIES,
-        list(ENTRIES), ENTRIES, list(ENTRIES), ENTRIES, list(ENTRIES), ENTRIES,
-        list(ENTRIES), ENTRIES, list(ENTRIES), ENTRIES, list(MEMO), MEMO, plan, STEPS);
+    void *block = malloc(laurelsnap_bytes(ROOM));
+    if (!block) {
+        fprintf(stderr, "no memory\n");
+        return 2;
+    }
+    struct laurelsnap_lists lists = laurelsnap_share(ROOM, block);
+    struct laurelsnap_found found = laurelsnap_search_in(file, length, &lists);
     if (found.number) {
         printf("refused %llu %llu\n", (unsigned long long)found.number, (unsigned long long)found.value);
         return 1;
@@ -66,9 +59,10 @@ int main(int argc, char **argv)
     printf("nodes %llu %llu\n", (unsigned long long)found.nodes, (unsigned long long)found.entries);
     printf("steps %llu\n", (unsigned long long)found.steps);
     for (unsigned k = 0, spent = 0; k < found.steps; k++) {
-        unsigned cost = cost_of(file, plan[k]);
+        unsigned cost = cost_of(file, lists.plan.at[k]);
         spent += cost;
-        printf("%u %u %u %u\n", k, plan[k], cost, spent);
+        printf("%u %u %u %u\n", k, lists.plan.at[k], cost, spent);
     }
+    free(block);
     return 0;
 }

@@ -1,6 +1,6 @@
 /*
  * Laurelsnap for C: the file check, the writer of canonical files, the walk of a given plan, the search for the best plan, and the
- * question what a state costs at least.
+ * question where a state stands: what it costs at least, and in how many steps.
  *
  * Link with the static library that `rt staticlib supervisor` writes, target/staticlib/libsupervisor.a.
  *
@@ -17,18 +17,17 @@
  *     file check, passed           0, 0
  *     writer, written              the length written, 0
  *     walk, succeeded              cost, utility of the state reached
- *     question, reached            the least cost, 1
- *     question, not reached        0, 0
  *     7, 9 and 10                  the record's number, 0
  *     17, 18 and 19                the step's number, 0
  *     any other refusal            0, 0
- *   A search's answer (struct laurelsnap_found) has one value, the same as `first` above, and 0 for success; then the listing's figures.
+ *   The answers of a search (struct laurelsnap_found) and of a question (struct laurelsnap_place) have one value, the same as `first`
+ *   above, and 0 for success; then what they report.
  *   Records and steps are counted from 0. Only the first fault is told.
  *
  * What a refusal leaves as it was
  *     1 to 12, 16 to 22            every list, the working lists too
- *     13                           level list, node lists and plan
- *     14 and 15                    the plan
+ *     13                           the lists of pairs, the node lists and the plan
+ *     14, 15 and 23                the plan
  */
 #ifndef LAURELSNAP_H
 #define LAURELSNAP_H
@@ -46,8 +45,8 @@ struct laurelsnap_answer {
     uint64_t second;
 };
 
-/* The refusals in order. The file check finds 1 to 10; the writer those and then 22, the walk those and 16 to 19, the search 1 to 15, the
-   question 1 to 12, 20 and 21. */
+/* The refusals. The file check finds 1 to 10 in this order; the writer those and then 22, the walk those and 16 to 19, the question those,
+   12, 20 and 21, the search those, 12 and 13, then at each pair 14 before 23, and 15 last. There is no 11. */
 enum laurelsnap_refusal {
     LAURELSNAP_OK = 0,
     LAURELSNAP_SHORT_FILE = 1,         /* file under 28 bytes */
@@ -60,8 +59,7 @@ enum laurelsnap_refusal {
     LAURELSNAP_BITS = 8,               /* the variables take more than 48 bits */
     LAURELSNAP_OPERATOR = 9,           /* an operator record against the rules */
     LAURELSNAP_TERM = 10,              /* a term record against the rules */
-    LAURELSNAP_LEVEL_LIST = 11,        /* level list shorter than the bound + 1 */
-    LAURELSNAP_LISTS = 12,             /* node or utility lists of unequal lengths, or over 1,048,576 long */
+    LAURELSNAP_LISTS = 12,             /* lists of pairs, node or utility lists of unequal lengths, or over 1,048,576 long */
     LAURELSNAP_UTILITY_ENTRIES = 13,   /* the utility diagram has more entries than its lists */
     LAURELSNAP_NODES = 14,             /* the sets have more nodes than the node lists */
     LAURELSNAP_PLAN_LIST = 15,         /* the plan is longer than the plan list */
@@ -70,8 +68,9 @@ enum laurelsnap_refusal {
     LAURELSNAP_PRECONDITION = 18,      /* a precondition of the step's operator does not hold */
     LAURELSNAP_BOUND = 19,             /* the cost so far, the step's included, is above the bound */
     LAURELSNAP_STATE = 20,             /* the questioned state has a wrong number of values, or one out of range */
-    LAURELSNAP_NODE_LISTS = 21,        /* the questioned node or level lists are no diagrams of the task */
-    LAURELSNAP_OUTPUT_LIST = 22        /* the output list is shorter than the file to be written */
+    LAURELSNAP_NODE_LISTS = 21,        /* the questioned lists are no diagrams of the task, or shorter than they are said to be */
+    LAURELSNAP_OUTPUT_LIST = 22,       /* the output list is shorter than the file to be written */
+    LAURELSNAP_PAIRS = 23              /* there are more non-empty pairs than entries in their lists */
 };
 
 /* The file check of the `length` bytes at `file`. */
@@ -101,7 +100,8 @@ static inline uint64_t laurelsnap_step(struct laurelsnap_answer answer) { return
 static inline uint64_t laurelsnap_cost(struct laurelsnap_answer answer) { return answer.first; }
 static inline uint64_t laurelsnap_utility(struct laurelsnap_answer answer) { return answer.second; }
 
-/* What a search reports: number and value as above, then the listing's figures in the listing's order, all 0 after a refusal. */
+/* What a search reports: number and value as above, then the listing's figures in the listing's order and among them the number of
+   non-empty pairs, all 0 after a refusal. */
 struct laurelsnap_found {
     uint64_t number;
     uint64_t value;
@@ -114,26 +114,145 @@ struct laurelsnap_found {
     uint64_t unused;  /* units: unused + cost == bound */
     uint64_t nodes;
     uint64_t entries;
+    uint64_t pairs;
     uint64_t steps;
 };
 
-/* The search for the best plan (refusals 1 to 15). Lists are lent as pointers and lengths: the level list; the three node lists; the
-   three utility lists; the working lists heads, chain and memo, of any length; and the plan, 16 bits a step. The working lists decide
-   the time alone: give heads and chain as many numbers as the node lists have entries, and memo four times as many and 4,100 more (a
-   shorter one than 4,104 is not used). */
-struct laurelsnap_found laurelsnap_search(
-    const uint8_t *file, size_t file_length, uint32_t *levels, size_t levels_length, uint32_t *bit, size_t bit_length,
-    uint32_t *low, size_t low_length, uint32_t *high, size_t high_length, uint32_t *utility_bit, size_t utility_bit_length,
-    uint32_t *utility_low, size_t utility_low_length, uint32_t *utility_high, size_t utility_high_length, uint32_t *heads,
-    size_t heads_length, uint32_t *chain, size_t chain_length, uint32_t *memo, size_t memo_length, uint16_t *plan,
-    size_t plan_length);
+/* What a question reports: number and value as above; then whether the state is reached, 1 or 0, and its place if it is: the least cost,
+   and the fewest steps at that cost. */
+struct laurelsnap_place {
+    uint64_t number;
+    uint64_t value;
+    uint64_t reached;
+    uint64_t cost;
+    uint64_t steps;
+};
 
-/* The question about one state, a byte per variable, over the lists that a search has left with `count` node entries (refusals 1 to 12,
-   20 and 21). Success: `first` is the least cost and `second` 1; both are 0 where the state is not reached. */
-struct laurelsnap_answer laurelsnap_question(
-    const uint8_t *file, size_t file_length, const uint8_t *state, size_t state_length, const uint32_t *levels,
-    size_t levels_length, const uint32_t *bit, size_t bit_length, const uint32_t *low, size_t low_length, const uint32_t *high,
-    size_t high_length, size_t count);
+/*
+ * The search for the best plan: greatest utility, then least cost, then fewest steps, then first in dictionary order (refusals 1 to 15 and
+ * 23). Lists are lent as pointers and lengths:
+ *   costs, steps, sets, wanted   an entry for each non-empty pair of cost and steps, in rising order: cost, steps, the name of the set of
+ *                                states that have this place, and that of those on a way to the best ones, 0 past the best plan's pair
+ *   bit, low, high               the node lists: entry k is the set named k + 2; 0 is the empty set and 1 the full one
+ *   utility_bit, _low, _high     the utility lists
+ *   heads, chain, memo           working lists of any length, which decide the time alone: give heads and chain as many numbers as the node
+ *                                lists have entries, and memo four times as many and 4,100 more (a shorter one than 4,104 is not used)
+ *   plan                         16 bits a step
+ * laurelsnap_share makes all of them from one block of memory.
+ */
+struct laurelsnap_found laurelsnap_search(
+    const uint8_t *file, size_t file_length, uint32_t *costs, size_t costs_length, uint32_t *steps, size_t steps_length,
+    uint32_t *sets, size_t sets_length, uint32_t *wanted, size_t wanted_length, uint32_t *bit, size_t bit_length, uint32_t *low,
+    size_t low_length, uint32_t *high, size_t high_length, uint32_t *utility_bit, size_t utility_bit_length, uint32_t *utility_low,
+    size_t utility_low_length, uint32_t *utility_high, size_t utility_high_length, uint32_t *heads, size_t heads_length,
+    uint32_t *chain, size_t chain_length, uint32_t *memo, size_t memo_length, uint16_t *plan, size_t plan_length);
+
+/* The question about one state, a byte per variable, over the lists that a search has left with `count` node entries and `pairs` pairs
+   (refusals 1 to 12, 20 and 21). It answers the first pair whose set holds the state. */
+struct laurelsnap_place laurelsnap_question(
+    const uint8_t *file, size_t file_length, const uint8_t *state, size_t state_length, const uint32_t *costs, size_t costs_length,
+    const uint32_t *steps, size_t steps_length, const uint32_t *sets, size_t sets_length, const uint32_t *wanted, size_t wanted_length,
+    const uint32_t *bit, size_t bit_length, const uint32_t *low, size_t low_length, const uint32_t *high, size_t high_length,
+    size_t count, size_t pairs);
+
+/*
+ * All lists of a search in one struct, and one block of memory shared out among them. A search in three lines:
+ *
+ *     struct laurelsnap_room room = { .nodes = 1048576, .utility = 4096, .pairs = 4096, .steps = 4096 };
+ *     struct laurelsnap_lists lists = laurelsnap_share(room, malloc(laurelsnap_bytes(room)));
+ *     struct laurelsnap_found found = laurelsnap_search_in(file, length, &lists);
+ *
+ * The plan is then lists.plan.at[0] to lists.plan.at[found.steps - 1], and laurelsnap_question_in answers where a state stands.
+ */
+
+/* A list of 32-bit numbers, and one of steps. */
+struct laurelsnap_list {
+    uint32_t *at;
+    size_t length;
+};
+struct laurelsnap_steps {
+    uint16_t *at;
+    size_t length;
+};
+
+/* What the lists have room for: nodes, utility entries, pairs, and steps of the plan. A plan has fewer steps than there are pairs, and
+   there are no more pairs than states. */
+struct laurelsnap_room {
+    size_t nodes;
+    size_t utility;
+    size_t pairs;
+    size_t steps;
+};
+
+struct laurelsnap_lists {
+    struct laurelsnap_list costs, steps, sets, wanted;
+    struct laurelsnap_list bit, low, high;
+    struct laurelsnap_list utility_bit, utility_low, utility_high;
+    struct laurelsnap_list heads, chain, memo;
+    struct laurelsnap_steps plan;
+};
+
+/* The length of heads and of chain for such a room, and that of memo. */
+static inline size_t laurelsnap_working(struct laurelsnap_room room) { return room.nodes > room.utility ? room.nodes : room.utility; }
+static inline size_t laurelsnap_memo(struct laurelsnap_room room) { return 4 * laurelsnap_working(room) + 4100; }
+
+/* How many bytes the lists take. */
+static inline size_t laurelsnap_bytes(struct laurelsnap_room room)
+{
+    size_t numbers = 4 * room.pairs + 3 * room.nodes + 3 * room.utility + 2 * laurelsnap_working(room) + laurelsnap_memo(room);
+    return sizeof(uint32_t) * numbers + sizeof(uint16_t) * room.steps;
+}
+
+/* The next list of the block that begins at *rest, which moves behind it. */
+static inline struct laurelsnap_list laurelsnap_next(uint32_t **rest, size_t length)
+{
+    struct laurelsnap_list list = { *rest, length };
+    *rest += length;
+    return list;
+}
+
+/* Shares out a block of laurelsnap_bytes(room) bytes, aligned as malloc does and not null. What it holds before a search does not matter. */
+static inline struct laurelsnap_lists laurelsnap_share(struct laurelsnap_room room, void *block)
+{
+    uint32_t *rest = (uint32_t *)block;
+    struct laurelsnap_lists lists;
+    lists.costs = laurelsnap_next(&rest, room.pairs);
+    lists.steps = laurelsnap_next(&rest, room.pairs);
+    lists.sets = laurelsnap_next(&rest, room.pairs);
+    lists.wanted = laurelsnap_next(&rest, room.pairs);
+    lists.bit = laurelsnap_next(&rest, room.nodes);
+    lists.low = laurelsnap_next(&rest, room.nodes);
+    lists.high = laurelsnap_next(&rest, room.nodes);
+    lists.utility_bit = laurelsnap_next(&rest, room.utility);
+    lists.utility_low = laurelsnap_next(&rest, room.utility);
+    lists.utility_high = laurelsnap_next(&rest, room.utility);
+    lists.heads = laurelsnap_next(&rest, laurelsnap_working(room));
+    lists.chain = laurelsnap_next(&rest, laurelsnap_working(room));
+    lists.memo = laurelsnap_next(&rest, laurelsnap_memo(room));
+    lists.plan.at = (uint16_t *)(void *)rest;
+    lists.plan.length = room.steps;
+    return lists;
+}
+
+/* The search, with all lists in one struct. */
+static inline struct laurelsnap_found laurelsnap_search_in(const uint8_t *file, size_t file_length, const struct laurelsnap_lists *lists)
+{
+    return laurelsnap_search(file, file_length, lists->costs.at, lists->costs.length, lists->steps.at, lists->steps.length, lists->sets.at,
+        lists->sets.length, lists->wanted.at, lists->wanted.length, lists->bit.at, lists->bit.length, lists->low.at, lists->low.length,
+        lists->high.at, lists->high.length, lists->utility_bit.at, lists->utility_bit.length, lists->utility_low.at,
+        lists->utility_low.length, lists->utility_high.at, lists->utility_high.length, lists->heads.at, lists->heads.length,
+        lists->chain.at, lists->chain.length, lists->memo.at, lists->memo.length, lists->plan.at, lists->plan.length);
+}
+
+/* The question, over the lists of a search that has reported `found`. */
+static inline struct laurelsnap_place laurelsnap_question_in(const uint8_t *file, size_t file_length, const uint8_t *state,
+    size_t state_length, const struct laurelsnap_lists *lists, const struct laurelsnap_found *found)
+{
+    return laurelsnap_question(file, file_length, state, state_length, lists->costs.at, lists->costs.length, lists->steps.at,
+        lists->steps.length, lists->sets.at, lists->sets.length, lists->wanted.at, lists->wanted.length, lists->bit.at,
+        lists->bit.length, lists->low.at, lists->low.length, lists->high.at, lists->high.length, (size_t)found->nodes,
+        (size_t)found->pairs);
+}
 
 #ifdef __cplusplus
 }

@@ -16,7 +16,7 @@ VARIABLE_BYTES, OPERATOR_BYTES, TERM_BYTES = 2, 36, 12
 VARIABLES_MOST, OPERATORS_MOST, TERMS_MOST = 32, 256, 256
 VALUES_LEAST, VALUES_MOST = 2, 16
 BOUND_MOST = 4095
-COST_LEAST, COST_MOST = 1, 4095
+COST_MOST = 4095
 WEIGHT_MOST = 65535
 OPERATOR_FACTS, TERM_FACTS = 8, 4
 BITS_MOST = 48
@@ -160,7 +160,7 @@ class Reader:
             raise Fault(f"operator '{name}' needs one arrow '->' between preconditions and effects")
         self.task.operators.append(Operator(
             name,
-            whole_number(cost, "the cost", COST_LEAST, COST_MOST),
+            whole_number(cost, "the cost", 0, COST_MOST),
             self.facts(parts[0], f"operator '{name}', preconditions", OPERATOR_FACTS),
             self.facts(parts[1], f"operator '{name}', effects", OPERATOR_FACTS)))
 
@@ -380,8 +380,8 @@ def read_variable(record):
 
 def read_operator(sizes, number, record):
     cost = number_at(record, 0)
-    if not COST_LEAST <= cost <= COST_MOST:
-        raise Fault(f"cost {cost}, allowed are {COST_LEAST} to {COST_MOST}")
+    if cost > COST_MOST:
+        raise Fault(f"cost {cost}, allowed are 0 to {COST_MOST}")
     return Operator(f"o{number}", cost, read_facts(sizes, record[4:20], record[2], OPERATOR_FACTS),
                     read_facts(sizes, record[20:36], record[3], OPERATOR_FACTS))
 

@@ -16,7 +16,7 @@
 #include <ucontext.h>
 #include <unistd.h>
 
-enum { PAGE = 4096, GUARD = 1 << 20, MARK = 0xa5, MOST_BYTES = 16384, MOST_LEVELS = 4096, ENTRIES = 1 << 20, MEMO = 4 * ENTRIES + 4100 };
+enum { PAGE = 4096, GUARD = 1 << 20, MARK = 0xa5, MOST_BYTES = 16384, MOST_PAIRS = 1 << 17, ENTRIES = 1 << 20 };
 
 enum { CHECK, SEARCH, WALK, QUESTION, WRITE, CALLS };
 
@@ -29,13 +29,12 @@ static uint8_t *stack;
 static size_t size;
 static ucontext_t here, there;
 
-static uint8_t file[MOST_BYTES + 1], out[MOST_BYTES], steps[2 * MOST_LEVELS], state[32];
+static uint8_t file[MOST_BYTES + 1], out[MOST_BYTES], steps[2 * MOST_PAIRS], state[32];
 static size_t length, variables;
-static uint32_t levels[MOST_LEVELS], bit[ENTRIES], low[ENTRIES], high[ENTRIES], utility_bit[ENTRIES], utility_low[ENTRIES], utility_high[ENTRIES];
-static uint32_t heads[ENTRIES], chain[ENTRIES], memo[MEMO];
-static uint16_t plan[MOST_LEVELS];
+static struct laurelsnap_lists lists;
 static struct laurelsnap_found found;
 static struct laurelsnap_answer answer;
+static struct laurelsnap_place place;
 
 static void fail(const char *what)
 {
@@ -59,14 +58,13 @@ static void run(void)
         answer = laurelsnap_check(file, length);
         break;
     case SEARCH:
-        found = laurelsnap_search(file, length, levels, MOST_LEVELS, bit, ENTRIES, low, ENTRIES, high, ENTRIES, utility_bit, ENTRIES, utility_low,
-            ENTRIES, utility_high, ENTRIES, heads, ENTRIES, chain, ENTRIES, memo, MEMO, plan, MOST_LEVELS);
+        found = laurelsnap_search_in(file, length, &lists);
         break;
     case WALK:
         answer = laurelsnap_walk(file, length, steps, 2 * found.steps);
         break;
     case QUESTION:
-        answer = laurelsnap_question(file, length, state, variables, levels, MOST_LEVELS, bit, ENTRIES, low, ENTRIES, high, ENTRIES, found.nodes);
+        place = laurelsnap_question_in(file, length, state, variables, &lists, &found);
         break;
     default:
         answer = laurelsnap_write(file, length, out, sizeof out);
@@ -104,8 +102,8 @@ static void put(size_t at, size_t bytes, size_t x)
         file[at + k] = (uint8_t)(x % 256);
 }
 
-/* A task with the most bits and records: variables of two and of four values in turn. An operator sets one or two of them, half of the operators
-   ask for a value before; a term is worth something where a variable, or two, have the value 1. */
+/* A task with the most bits and records: variables of two and of four values in turn. An operator sets one or two of them, the first four for
+   nothing; half of the operators ask for a value before; a term is worth something where a variable, or two, have the value 1. */
 static void make_large(void)
 {
     enum { VARIABLES = 32, RECORDS = 256, BOUND = 5, OPERATORS_AT = 28 + 2 * VARIABLES, TERMS_AT = OPERATORS_AT + 36 * RECORDS };
@@ -125,7 +123,7 @@ static void make_large(void)
         put(28 + 2 * v, 1, v % 2 == 0 ? 2 : 4);
     for (size_t k = 0; k < RECORDS; k++) {
         size_t v = k % VARIABLES, round = k / VARIABLES, other = v + 1 + round, at = OPERATORS_AT + 36 * k;
-        put(at, 2, 1 + (k + round) % 4);
+        put(at, 2, k < 4 ? 0 : 1 + (k + round) % 4);
         put(at + 2, 1, round % 2);
         put(at + 3, 1, other < VARIABLES ? 2 : 1);
         if (round % 2 == 1)
@@ -162,8 +160,8 @@ static void make_calls(void)
     if (found.number != 0)
         fail("refused");
     for (size_t k = 0; k < found.steps; k++) {
-        steps[2 * k] = (uint8_t)(plan[k] % 256);
-        steps[2 * k + 1] = (uint8_t)(plan[k] / 256);
+        steps[2 * k] = (uint8_t)(lists.plan.at[k] % 256);
+        steps[2 * k + 1] = (uint8_t)(lists.plan.at[k] / 256);
     }
     on_stack(WALK);
     expect(found.cost, found.utility);
@@ -171,11 +169,12 @@ static void make_calls(void)
     for (size_t v = 0; v < variables; v++)
         state[v] = file[le16(12) + 65536 * le16(14) + 2 * v + 1];
     on_stack(QUESTION); /* about the starting state, */
-    expect(0, 1);
+    if (place.number != 0 || place.reached != 1 || place.cost != 0 || place.steps != 0)
+        fail("another place than the start's");
     for (size_t v = 0; v < variables; v++)
         state[v] = 0;
     on_stack(QUESTION); /* and about one that need not be reached */
-    if (answer.number != 0)
+    if (place.number != 0)
         fail("refused");
     on_stack(WRITE);
     expect(28 + 2 * variables + 36 * le16(6) + 12 * le16(8), 0);
@@ -198,6 +197,13 @@ int main(int argc, char **argv)
         return EXIT_FAILURE;
     }
     stack = pages + GUARD;
+    struct laurelsnap_room room = { .nodes = ENTRIES, .utility = ENTRIES, .pairs = MOST_PAIRS, .steps = MOST_PAIRS };
+    void *block = malloc(laurelsnap_bytes(room));
+    if (block == NULL) {
+        perror("stack");
+        return EXIT_FAILURE;
+    }
+    lists = laurelsnap_share(room, block);
     make_large();
     make_calls();
     for (int i = 2; i < argc; i++) {

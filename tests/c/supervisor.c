@@ -1,7 +1,7 @@
 /*
- * The static library as the bench supervisor calls it: the stand cases of the file check and the walk, searches in lists of the greatest
- * lengths, cases of the writer, then many made-up files and plans, compared with a plain check, walk and writer written here from the
- * documents.
+ * The static library as the bench supervisor calls it: the stand cases of the file check and the walk, searches in lists that are just long
+ * enough, too short and of the greatest lengths, questions, a plan of thousands of free steps, cases of the writer, then many made-up files
+ * and plans, compared with a plain check, walk and writer written here from the documents.
  */
 #include "laurelsnap.h"
 
@@ -112,7 +112,7 @@ static Answer plain_check(const uint8_t *file, size_t length, Task *t)
         return answer(8, 0, 0);
     for (size_t o = 0; o < t->operators; o++) {
         const uint8_t *r = t->operator_ + 36 * o;
-        if (le16(r) < 1 || le16(r) > 4095 || r[2] > 8 || r[3] > 8 || !row_right(t, r + 4, r[2], 8) || !row_right(t, r + 20, r[3], 8))
+        if (le16(r) > 4095 || r[2] > 8 || r[3] > 8 || !row_right(t, r + 4, r[2], 8) || !row_right(t, r + 20, r[3], 8))
             return answer(9, o, 0);
     }
     for (size_t n = 0; n < t->terms; n++) {
@@ -289,7 +289,9 @@ static void stand_cases(void)
     checks("17 values", 7, 0);
     make(1, 1, 0, 0);
     put16(operator_at(0), 0);
-    checks("cost 0", 9, 0);
+    checks("cost 0", 0, 0);
+    put16(operator_at(0), 4096);
+    checks("cost 4,096", 9, 0);
     make(12, 0, 0, 0);
     for (size_t v = 0; v < 12; v++)
         file[28 + 2 * v] = 16;
@@ -315,32 +317,157 @@ static void stand_cases(void)
 
 /* ---- searches */
 
-/* The search over the file, in node lists and utility lists of these lengths; the level list is just long enough, the plan list has one step. */
-static struct laurelsnap_found found_in(size_t nodes, size_t entries)
+/* The lists of a search, two numbers longer than lists may be, and the lengths lent: lists of pairs, node lists, utility lists, plan. */
+enum { LONGEST = 1048576 };
+enum { COSTS, STEPS, SETS, WANTED, BIT, LOW, HIGH, UTILITY_BIT, UTILITY_LOW, UTILITY_HIGH, LISTS };
+static uint32_t lists[LISTS][LONGEST + 2], working[3][256];
+static uint16_t plan[8192];
+
+struct lengths {
+    size_t pairs, nodes, entries, steps;
+};
+
+/* The search over the file with these lists, of which one is longer by a number (none of them if it is LISTS). */
+static struct laurelsnap_found found_with(struct lengths lent, int longer)
 {
-    static uint32_t lists[6][1048577], levels[4096], working[3][256];
-    static uint16_t plan[1];
-    return laurelsnap_search(file, length, levels, le16(file + 10) + 1, lists[0], nodes, lists[1], nodes, lists[2], nodes, lists[3], entries,
-        lists[4], entries, lists[5], entries, working[0], 256, working[1], 256, working[2], 256, plan, 1);
+    size_t l[LISTS];
+    for (int i = 0; i < LISTS; i++)
+        l[i] = (i < BIT ? lent.pairs : i < UTILITY_BIT ? lent.nodes : lent.entries) + (i == longer);
+    return laurelsnap_search(file, length, lists[COSTS], l[COSTS], lists[STEPS], l[STEPS], lists[SETS], l[SETS], lists[WANTED], l[WANTED],
+        lists[BIT], l[BIT], lists[LOW], l[LOW], lists[HIGH], l[HIGH], lists[UTILITY_BIT], l[UTILITY_BIT], lists[UTILITY_LOW],
+        l[UTILITY_LOW], lists[UTILITY_HIGH], l[UTILITY_HIGH], working[0], 256, working[1], 256, working[2], 256, plan, lent.steps);
 }
 
-/* P with the bound 1: the number and the steps, and the time 0 1 0, or nothing but zeros after a refusal. */
-static void searches(const char *what, size_t nodes, size_t entries, uint64_t number, uint64_t steps)
+/* P with the bound 1: number, pairs and steps, and the time 0 1 0, or nothing but zeros after a refusal. */
+static void searches(const char *what, size_t pairs, size_t nodes, size_t entries, size_t steps, uint64_t number)
 {
-    struct laurelsnap_found found = found_in(nodes, entries);
-    same(what, answer(found.number, found.value, found.steps), number, 0, steps);
+    struct laurelsnap_found found = found_with((struct lengths) { pairs, nodes, entries, steps }, LISTS);
+    same(what, answer(found.number, found.pairs, found.steps), number, number == 0 ? 2 : 0, number == 0);
     same(what, answer(found.minutes, found.units, found.unused), 0, number == 0, 0);
+    same(what, answer(found.value, found.utility, found.ceiling), 0, number == 0 ? 2 : 0, number == 0 ? 3 : 0);
 }
 
-static void long_lists(void)
+/* 12 before 13, which comes before 14 and 23; of these 14 first within a pair: 2 nodes for the starting state, 8 for all sets. */
+static void list_lengths(void)
 {
     make_P(1);
-    searches("8 node and 6 utility entries", 8, 6, 0, 1);
-    searches("5 utility entries", 8, 5, 13, 0);
-    searches("7 node entries", 7, 6, 14, 0);
-    searches("1,048,576 entries", 1048576, 1048576, 0, 1);
-    searches("1,048,577 node entries", 1048577, 6, 12, 0);
-    searches("1,048,577 utility entries", 8, 1048577, 12, 0);
+    searches("lists that are just long enough", 2, 8, 6, 1, 0);
+    searches("5 utility entries", 0, 0, 5, 0, 13);
+    searches("7 node entries", 2, 7, 6, 0, 14);
+    searches("1 pair", 1, 8, 6, 0, 23);
+    searches("1 pair and 7 node entries", 1, 7, 6, 0, 14);
+    searches("no pair", 0, 2, 6, 0, 23);
+    searches("no pair and 1 node entry", 0, 1, 6, 0, 14);
+    searches("no step", 2, 8, 6, 0, 15);
+    searches("the longest lists", LONGEST, LONGEST, LONGEST, 8192, 0);
+    searches("too many pairs", LONGEST + 1, 8, 6, 1, 12);
+    searches("too many node entries", 2, LONGEST + 1, 6, 1, 12);
+    searches("too many utility entries", 2, 8, LONGEST + 1, 1, 12);
+    for (int list = 0; list < LISTS; list++) {
+        struct laurelsnap_found found = found_with((struct lengths) { 0, 0, 0, 0 }, list);
+        same("a list that is longer than its fellows", answer(found.number, found.value, found.steps), 12, 0, 0);
+        found = found_with((struct lengths) { LONGEST, LONGEST, LONGEST, 1 }, list);
+        same("a list that is longer than the longest", answer(found.number, found.value, found.steps), 12, 0, 0);
+    }
+    for (size_t bound = 4; bound <= 5; bound++) {
+        make_Q(bound);
+        struct laurelsnap_found found = found_with((struct lengths) { 8, 64, 16, 2 }, LISTS);
+        same("Q, the plan", answer(found.steps, plan[0], found.cost), 1, 3, 4);
+    }
+}
+
+/* Where a state stands: the answer's number, cost and steps, and that it is reached; or that it is not, with zeros. */
+static void stands(const char *what, struct laurelsnap_place place, uint64_t number, uint64_t reached, uint64_t cost, uint64_t steps)
+{
+    same(what, answer(place.number, place.value, place.reached), number, 0, reached);
+    same(what, answer(0, place.cost, place.steps), 0, cost, steps);
+}
+
+/* The question over the lists, of which one is longer by a number, about a state of P. */
+static struct laurelsnap_place asked(const uint8_t *state, struct lengths lent, int longer)
+{
+    size_t l[UTILITY_BIT];
+    for (int i = 0; i < UTILITY_BIT; i++)
+        l[i] = (i < BIT ? 8 : 16) + (i == longer);
+    return laurelsnap_question(file, length, state, 2, lists[COSTS], l[COSTS], lists[STEPS], l[STEPS], lists[SETS], l[SETS], lists[WANTED],
+        l[WANTED], lists[BIT], l[BIT], lists[LOW], l[LOW], lists[HIGH], l[HIGH], lent.nodes, lent.pairs);
+}
+
+static void questions(void)
+{
+    static const uint8_t start[2] = { 0, 0 }, moved[2] = { 1, 0 }, both[2] = { 1, 1 }, none[2] = { 2, 0 };
+    make_P(1);
+    struct laurelsnap_found found = found_with((struct lengths) { 8, 16, 16, 8 }, LISTS);
+    struct lengths left = { found.pairs, found.nodes, 0, 0 };
+    stands("the start", asked(start, left, LISTS), 0, 1, 0, 0);
+    stands("a state at cost 1", asked(moved, left, LISTS), 0, 1, 1, 1);
+    stands("a state beyond the bound", asked(both, left, LISTS), 0, 0, 0, 0);
+    stands("no state", asked(none, left, LISTS), 20, 0, 0, 0);
+    stands("no pairs", asked(start, (struct lengths) { 0, found.nodes, 0, 0 }, LISTS), 0, 0, 0, 0);
+    stands("one pair", asked(moved, (struct lengths) { 1, found.nodes, 0, 0 }, LISTS), 0, 0, 0, 0);
+    stands("9 pairs of 8", asked(start, (struct lengths) { 9, found.nodes, 0, 0 }, LISTS), 21, 0, 0, 0);
+    stands("17 nodes of 16", asked(start, (struct lengths) { found.pairs, 17, 0, 0 }, LISTS), 21, 0, 0, 0);
+    for (int list = 0; list < UTILITY_BIT; list++)
+        stands("a list that is longer than its fellows", asked(none, left, list), 12, 0, 0, 0);
+    lists[WANTED][0] = lists[WANTED][1] = UINT32_MAX;
+    stands("a wanted name that is none", asked(moved, left, LISTS), 0, 1, 1, 1);
+    lists[COSTS][1] = 77;
+    lists[STEPS][1] = UINT32_MAX;
+    stands("cost and steps as they are listed", asked(moved, left, LISTS), 0, 1, 77, UINT32_MAX);
+    lists[SETS][1] = (uint32_t)found.nodes + 2;
+    stands("a set's name that is none", asked(start, left, LISTS), 21, 0, 0, 0);
+    stands("a set's name that is none, past the pairs", asked(start, (struct lengths) { 1, found.nodes, 0, 0 }, LISTS), 0, 1, 0, 0);
+}
+
+/* A counter of four digits of nine values that goes on for nothing, and is worth something at its last number. */
+static void make_counter(void)
+{
+    enum { DIGITS = 4, VALUES = 9 };
+    make(DIGITS, DIGITS * (VALUES - 1), 1, 0);
+    for (size_t v = 0; v < DIGITS; v++)
+        file[28 + 2 * v] = VALUES;
+    for (size_t o = 0; o < DIGITS * (VALUES - 1); o++) {
+        unsigned digit = (unsigned)o / (VALUES - 1), value = (unsigned)o % (VALUES - 1);
+        put16(operator_at(o), 0);
+        pre(o, digit, value);
+        eff(o, digit, value + 1);
+        for (unsigned v = digit + 1; v < DIGITS; v++) {
+            pre(o, v, VALUES - 1);
+            eff(o, v, 0);
+        }
+    }
+    put16(term_at(0), 1);
+    for (unsigned v = 0; v < DIGITS; v++)
+        asks(0, v, VALUES - 1);
+}
+
+/* More pairs and steps than a bound has units, in lists that are just long enough and shared out of one block; and one short. */
+static void one_block(void)
+{
+    enum { NUMBERS = 9 * 9 * 9 * 9 };
+    static const uint8_t last[4] = { 8, 8, 8, 8 }, first[4] = { 0, 0, 0, 0 };
+    make_counter();
+    for (size_t turn = 0; turn < 3; turn++) {
+        struct laurelsnap_room room = { .nodes = 65536, .utility = 64, .pairs = NUMBERS - (turn == 1), .steps = NUMBERS - 1 - (turn == 2) };
+        uint8_t *block = malloc(laurelsnap_bytes(room));
+        if (block == NULL)
+            exit(EXIT_FAILURE);
+        struct laurelsnap_lists in = laurelsnap_share(room, block);
+        struct laurelsnap_found found = laurelsnap_search_in(file, length, &in);
+        const uint8_t *begin = (uint8_t *)in.costs.at, *end = (uint8_t *)(in.plan.at + in.plan.length);
+        same("the block's ends", answer(begin == block, end == block + laurelsnap_bytes(room), 0), 1, 1, 0);
+        uint64_t number = turn == 1 ? 23 : turn == 2 ? 15 : 0;
+        same("a long plan", answer(found.number, found.pairs, found.steps), number, turn == 0 ? NUMBERS : 0, turn == 0 ? NUMBERS - 1 : 0);
+        if (turn == 0) {
+            stands("the first number", laurelsnap_question_in(file, length, first, 4, &in, &found), 0, 1, 0, 0);
+            stands("the last number", laurelsnap_question_in(file, length, last, 4, &in, &found), 0, 1, 0, NUMBERS - 1);
+            static uint8_t steps[2 * NUMBERS];
+            for (size_t k = 0; k < found.steps; k++)
+                store(steps + 2 * k, 2, in.plan.at[k]);
+            same("a long plan, walked", laurelsnap_walk(file, length, steps, 2 * found.steps), 0, 0, 1);
+        }
+        free(block);
+    }
 }
 
 /* One operator of this cost that is worth 1: minutes, units left over and units unused of the best plan. */
@@ -351,7 +478,7 @@ static void takes(const char *what, size_t cost, size_t bound, uint64_t minutes,
     eff(0, 0, 1);
     put16(term_at(0), 1);
     asks(0, 0, 1);
-    struct laurelsnap_found found = found_in(16, 8);
+    struct laurelsnap_found found = found_with((struct lengths) { 2, 16, 8, 1 }, LISTS);
     same(what, answer(found.minutes, found.units, found.unused), minutes, units, unused);
 }
 
@@ -362,6 +489,7 @@ static void times(void)
     takes("cost 14 of 20", 14, 20, 2, 2, 6);
     takes("cost 4,095 of 4,095", 4095, 4095, 682, 3, 0);
     takes("an operator that costs more than the bound", 4095, 4094, 0, 0, 4094);
+    takes("a free operator", 0, 7, 0, 0, 7);
 }
 
 /* ---- random numbers */
@@ -476,8 +604,8 @@ static void writer_cases(void)
     make_Q(5);
     written_places("Q, its places", 28, 30, 174, 186);
     compare_rearranged("Q");
-    put16(operator_at(2), 0);
-    writes("Q with cost 0, no list", 0, 9, 2);
+    put16(operator_at(2), 4096);
+    writes("Q with cost 4,096, no list", 0, 9, 2);
     make(1, 0, 0, 0);
     compare_rearranged("no operators and no terms");
     put32(16, 29);
@@ -531,7 +659,7 @@ static void make_any(void)
     }
     for (size_t o = 0; o < operators; o++) {
         size_t at = operator_at(o);
-        put16(at, 1 + below(6));
+        put16(at, below(7));
         if (below(2))
             some_facts(at + 4, at + 2, 8, variables);
         some_facts(at + 20, at + 3, 8, variables);
@@ -594,7 +722,9 @@ static void made_up(void)
 int main(void)
 {
     stand_cases();
-    long_lists();
+    list_lengths();
+    questions();
+    one_block();
     times();
     writer_cases();
     made_up();

@@ -1,7 +1,8 @@
 /*
  * Whole searches with working lists of many lengths and contents. Each must give what a search with working lists of full length, all zero,
- * gives: the answer, the plan, the levels, the node entries and the utility entries, in the same order, with all later entries as they were.
- * Node lists that are shorter than the node count must be refused 14, utility lists that are shorter than the entry count 13, and no others.
+ * gives: the answer, the plan, the pairs, the node entries and the utility entries, in the same order, with all later entries as they were.
+ * Node lists that are shorter than the node count must be refused 14, utility lists that are shorter than the entry count 13, lists of pairs
+ * that are one entry short 23, and no others.
  *
  * Every list ends at a page that can be neither read nor written, and the numbers before it must stay.
  *
@@ -18,14 +19,14 @@
 #include <sys/mman.h>
 #include <unistd.h>
 
-enum { PAGE = 4096, MOST_BYTES = 16384, MOST_LEVELS = 4096, ENTRIES = 1 << 17, FULL_MEMO = 4 * ENTRIES + 4100 };
+enum { PAGE = 4096, MOST_BYTES = 16384, MOST_PAIRS = 4096, ENTRIES = 1 << 17, FULL_MEMO = 4 * ENTRIES + 4100 };
 enum { LATER = 5, BEFORE = 16, UNTOUCHED = 0x5a };
 
 /* The lists of a search. */
-enum { LEVELS, BIT, LOW, HIGH, UTILITY_BIT, UTILITY_LOW, UTILITY_HIGH, HEADS, CHAIN, MEMO, PLAN, LISTS };
+enum { COSTS, STEPS, SETS, WANTED, BIT, LOW, HIGH, UTILITY_BIT, UTILITY_LOW, UTILITY_HIGH, HEADS, CHAIN, MEMO, PLAN, LISTS };
 
-static const char *const names[LISTS] = { "levels", "bit", "low", "high", "utility bit", "utility low", "utility high", "heads", "chain", "memo",
-    "plan" };
+static const char *const names[LISTS] = { "costs", "steps", "sets", "wanted", "bit", "low", "high", "utility bit", "utility low",
+    "utility high", "heads", "chain", "memo", "plan" };
 static uint8_t *ends[LISTS];     /* a list stands in front of its end */
 static size_t lengths[LISTS];    /* how many numbers are lent */
 static uint8_t *expected[LISTS]; /* what the search with full-length working lists wrote */
@@ -101,11 +102,11 @@ static void *pages(size_t bytes)
 
 static void make_lists(void)
 {
-    static const size_t most[LISTS] = { MOST_LEVELS, ENTRIES, ENTRIES, ENTRIES, ENTRIES, ENTRIES, ENTRIES, ENTRIES, ENTRIES, FULL_MEMO, MOST_LEVELS };
     for (int list = 0; list < LISTS; list++) {
-        ends[list] = pages(width(list) * most[list] + BEFORE);
-        expected[list] = malloc(width(list) * most[list]);
-        lengths[list] = most[list];
+        size_t most = list <= WANTED || list == PLAN ? MOST_PAIRS : list == MEMO ? FULL_MEMO : ENTRIES;
+        ends[list] = pages(width(list) * most + BEFORE);
+        expected[list] = malloc(width(list) * most);
+        lengths[list] = most;
     }
     untouched = malloc(4 * FULL_MEMO);
     memset(untouched, UNTOUCHED, 4 * FULL_MEMO);
@@ -185,17 +186,18 @@ static struct laurelsnap_found search(const struct task *t)
 {
     alarm(60);
     searches++;
-    struct laurelsnap_found found = laurelsnap_search(t->file, t->length, words(LEVELS), lengths[LEVELS], words(BIT), lengths[BIT], words(LOW),
-        lengths[LOW], words(HIGH), lengths[HIGH], words(UTILITY_BIT), lengths[UTILITY_BIT], words(UTILITY_LOW), lengths[UTILITY_LOW],
-        words(UTILITY_HIGH), lengths[UTILITY_HIGH], words(HEADS), lengths[HEADS], words(CHAIN), lengths[CHAIN], words(MEMO), lengths[MEMO],
+    struct laurelsnap_found found = laurelsnap_search(t->file, t->length, words(COSTS), lengths[COSTS], words(STEPS), lengths[STEPS],
+        words(SETS), lengths[SETS], words(WANTED), lengths[WANTED], words(BIT), lengths[BIT], words(LOW), lengths[LOW], words(HIGH),
+        lengths[HIGH], words(UTILITY_BIT), lengths[UTILITY_BIT], words(UTILITY_LOW), lengths[UTILITY_LOW], words(UTILITY_HIGH),
+        lengths[UTILITY_HIGH], words(HEADS), lengths[HEADS], words(CHAIN), lengths[CHAIN], words(MEMO), lengths[MEMO],
         (uint16_t *)(void *)first(PLAN), lengths[PLAN]);
     alarm(0);
     return found;
 }
 
-static void lend(size_t levels, size_t nodes, size_t entries, size_t plan)
+static void lend(size_t pairs, size_t nodes, size_t entries, size_t plan)
 {
-    lengths[LEVELS] = levels;
+    lengths[COSTS] = lengths[STEPS] = lengths[SETS] = lengths[WANTED] = pairs;
     lengths[BIT] = lengths[LOW] = lengths[HIGH] = nodes;
     lengths[UTILITY_BIT] = lengths[UTILITY_LOW] = lengths[UTILITY_HIGH] = entries;
     lengths[PLAN] = plan;
@@ -204,7 +206,7 @@ static void lend(size_t levels, size_t nodes, size_t entries, size_t plan)
 /* The search with working lists of full length, and what it wrote. */
 static void search_full(void)
 {
-    lend(MOST_LEVELS, ENTRIES, ENTRIES, MOST_LEVELS);
+    lend(MOST_PAIRS, ENTRIES, ENTRIES, MOST_PAIRS);
     lengths[HEADS] = lengths[CHAIN] = ENTRIES;
     lengths[MEMO] = FULL_MEMO;
     memset(&full, 0, sizeof full);
@@ -220,8 +222,9 @@ static void search_full(void)
     draw_contents();
 }
 
-/* The search with working lists of these lengths and drawn contents, in node and utility lists of these lengths. */
-static void search_with(size_t heads, size_t chain, size_t memo, size_t nodes, size_t entries)
+/* The search with working lists of these lengths and drawn contents, in node lists, utility lists and lists of pairs of these lengths. Too few
+   nodes are never lent together with too few pairs, so that it is plain which refusal is due. */
+static void search_with(size_t heads, size_t chain, size_t memo, size_t nodes, size_t entries, size_t pairs)
 {
     lengths[HEADS] = heads;
     lengths[CHAIN] = chain;
@@ -230,13 +233,13 @@ static void search_with(size_t heads, size_t chain, size_t memo, size_t nodes, s
         fill(list, (int)below(CONTENTS));
     used = below(8) == 0;
     if (used) {
-        lend(MOST_LEVELS, ENTRIES, ENTRIES, MOST_LEVELS);
+        lend(MOST_PAIRS, ENTRIES, ENTRIES, MOST_PAIRS);
         search(other);
     }
-    lend(full.bound + 1 + LATER, nodes, entries, full.steps + LATER);
+    lend(pairs, nodes, entries, full.steps + LATER);
     untouch();
     struct laurelsnap_found found = search(task), due = { 0 };
-    due.number = entries < full.entries ? 13 : nodes < full.nodes ? 14 : 0;
+    due.number = entries < full.entries ? 13 : nodes < full.nodes ? 14 : pairs < full.pairs ? 23 : 0;
     if (due.number == 0)
         due = full;
     if (found.number != due.number) {
@@ -251,40 +254,43 @@ static void search_with(size_t heads, size_t chain, size_t memo, size_t nodes, s
             fail_at("a number before the list", list);
     bool done = due.number == 0;
     check_list(PLAN, done ? full.steps : 0);
-    if (due.number != 14) {
-        check_list(LEVELS, done ? full.bound + 1 : 0);
+    if (done || due.number == 13) {
+        check_lists(COSTS, WANTED, done ? full.pairs : 0);
         check_lists(BIT, HIGH, done ? full.nodes : 0);
     }
     if (done)
         check_lists(UTILITY_BIT, UTILITY_HIGH, full.entries);
 }
 
-/* Node and utility lists with more room, just enough, one entry too short, and any number too short. */
+/* Node lists, utility lists and lists of pairs with more room, just enough, one entry too short, and any number too short. */
 static void search_rooms(size_t heads, size_t chain, size_t memo, int room)
 {
-    size_t nodes = full.nodes, entries = full.entries;
+    size_t nodes = full.nodes, entries = full.entries, pairs = full.pairs;
     switch (room) {
     case 0:
-        search_with(heads, chain, memo, nodes + LATER, entries + LATER);
+        search_with(heads, chain, memo, nodes + LATER, entries + LATER, pairs + LATER);
         break;
     case 1:
-        search_with(heads, chain, memo, nodes, entries);
+        search_with(heads, chain, memo, nodes, entries, pairs);
         break;
     case 2:
-        search_with(heads, chain, memo, nodes - 1, entries);
+        search_with(heads, chain, memo, nodes - 1, entries, pairs);
         break;
     case 3:
-        search_with(heads, chain, memo, nodes + LATER, entries - 1);
+        search_with(heads, chain, memo, nodes + LATER, entries - 1, pairs);
         break;
     case 4:
-        search_with(heads, chain, memo, below(nodes), entries + LATER);
+        search_with(heads, chain, memo, below(nodes), entries + LATER, pairs + LATER);
+        break;
+    case 5:
+        search_with(heads, chain, memo, below(nodes + 1), below(entries), below(pairs + 1));
         break;
     default:
-        search_with(heads, chain, memo, below(nodes + 1), below(entries));
+        search_with(heads, chain, memo, nodes + LATER, entries, below(pairs));
     }
 }
 
-enum { ROOMS = 6, HEAD_LENGTHS = 9, CHAIN_LENGTHS = 8, MEMO_LENGTHS = 10, SLOW_HEADS = 3, SLOW_CHAINS = 4, SLOW_MEMOS = 5 };
+enum { ROOMS = 7, HEAD_LENGTHS = 9, CHAIN_LENGTHS = 8, MEMO_LENGTHS = 10, SLOW_HEADS = 3, SLOW_CHAINS = 4, SLOW_MEMOS = 5 };
 
 /* One of the lengths; seldom one of the first few, with which a search with many entries is slow. */
 static size_t some(const size_t *from, size_t count, size_t slow) { return from[below(20) == 0 ? below(slow) : slow + below(count - slow)]; }

@@ -43,7 +43,7 @@ def random_task(dice):
         chosen = sorted(dice.sample(range(len(sizes)), dice.randint(0, min(most, len(sizes)))))
         return [(v, dice.randrange(sizes[v])) for v in chosen]
 
-    operators = [bpt.Operator(f"o{k}", dice.randint(1, 4095), facts(8), facts(8)) for k in range(dice.randint(0, 9))]
+    operators = [bpt.Operator(f"o{k}", dice.choice((0, dice.randint(1, 4095))), facts(8), facts(8)) for k in range(dice.randint(0, 9))]
     terms = [bpt.Term(f"t{k}", dice.randint(0, 65535), facts(4)) for k in range(dice.randint(0, 9))]
     return bpt.Task(dice.randint(0, 4095), variables, operators, terms)
 
@@ -89,6 +89,12 @@ class Text(unittest.TestCase):
         self.assertEqual(task.operators[2].eff, [(1, 1)])
         self.assertEqual(task.terms[1], bpt.Term("both", 1, [(0, 1), (1, 1)]))
 
+    def test_a_move_may_cost_nothing(self):
+        task = bpt.parse(P.replace("operator b cost 1", "operator b cost 0"))
+        self.assertEqual([o.cost for o in bpt.decode(bpt.encode(task)).operators], [1, 0, 1])
+        free = LISTING.replace("cost 1 of 1", "cost 0 of 1").replace("time 0 1 0", "time 0 0 1").replace("0 1 1 1", "0 1 0 0")
+        self.assertIn("0 1 0 0  b\n", bpt.explain(task, free))
+
     def test_statements_in_any_order(self):
         turned = "\n".join(reversed(P.splitlines()))
         self.assertEqual({v.name for v in bpt.parse(turned).variables}, {"p", "q"})
@@ -105,8 +111,8 @@ class Text(unittest.TestCase):
         self.one("variable r a* b", "form")
         self.one("variable r!: a* b", "'r!' is no name")
         self.one("operator a cost 1: ->", "line 6")
-        self.one("operator d cost 0: ->", "cost is 0", "1 to 4095")
-        self.one("operator d cost 4096: ->", "4096")
+        self.one("operator d cost 4096: ->", "cost is 4096", "0 to 4095")
+        self.one("operator d cost -1: ->", "'-1'")
         self.one("operator d cost x: ->", "'x'")
         self.one("operator d: ->", "form")
         self.one("operator d cost 1: p=1", "arrow")
@@ -173,7 +179,7 @@ class File(unittest.TestCase):
         self.refused(self.changed((variables + 2, 17)), 7, 1)
         self.refused(self.changed((variables, 1)), 7)
         self.refused(self.changed((variables + 1, 2)), 7)
-        self.refused(self.changed((operators, 0)), 9)
+        self.refused(self.changed((operators + 1, 16)), 9)
         self.refused(self.changed((operators + 36 + 2, 9)), 9, 1)
         self.refused(self.changed((operators + 4, 2)), 9)
         self.refused(self.changed((operators + 5, 2)), 9)
@@ -248,7 +254,7 @@ class Canonical(unittest.TestCase):
 
     def test_refused(self):
         file = bytearray(bpt.encode(bpt.parse(P)))
-        file[32 + 36] = 0
+        file[32 + 36 + 1] = 16
         with self.assertRaises(bpt.Refused) as caught:
             bpt.canonical(bytes(file))
         self.assertEqual((caught.exception.number, caught.exception.value), (9, 1))

@@ -24,7 +24,8 @@ class Examples(unittest.TestCase):
         task = bpt.parse((EXAMPLES / "calibration.task").read_text())
         named = bpt.explain(task, (EXAMPLES / "calibration.listing").read_text())
         self.assertIn("time 2 2 0\n", named)
-        self.assertIn("11 14 1 14  reconcile\n", named)
+        self.assertIn("10 5 0 12  close-shutter\n", named)
+        self.assertIn("12 18 1 14  reconcile\n", named)
 
 
 if __name__ == "__main__":

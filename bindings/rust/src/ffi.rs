@@ -16,6 +16,16 @@ pub struct Report {
     pub found: Found,
 }
 
+/// Where a state stands: `reached` is 1 or 0, and cost and steps are its place if it is 1.
+#[repr(C)]
+pub struct Standing {
+    pub number: u64,
+    pub value: u64,
+    pub reached: u64,
+    pub cost: u64,
+    pub steps: u64,
+}
+
 #[rustfmt::skip]
 extern "C" {
     pub fn laurelsnap_check(file: *const u8, length: usize) -> Answer;
@@ -24,7 +34,10 @@ extern "C" {
 
     pub fn laurelsnap_search(
         file: *const u8, file_length: usize,
-        levels: *mut u32, levels_length: usize,
+        costs: *mut u32, costs_length: usize,
+        steps: *mut u32, steps_length: usize,
+        sets: *mut u32, sets_length: usize,
+        wanted: *mut u32, wanted_length: usize,
         bit: *mut u32, bit_length: usize,
         low: *mut u32, low_length: usize,
         high: *mut u32, high_length: usize,
@@ -37,14 +50,16 @@ extern "C" {
         plan: *mut u16, plan_length: usize,
     ) -> Report;
 
-    /// Success: `first` is the least cost and `second` 1, or both are 0 for "not reached".
     pub fn laurelsnap_question(
         file: *const u8, file_length: usize,
         state: *const u8, state_length: usize,
-        levels: *const u32, levels_length: usize,
+        costs: *const u32, costs_length: usize,
+        steps: *const u32, steps_length: usize,
+        sets: *const u32, sets_length: usize,
+        wanted: *const u32, wanted_length: usize,
         bit: *const u32, bit_length: usize,
         low: *const u32, low_length: usize,
         high: *const u32, high_length: usize,
-        count: usize,
-    ) -> Answer;
+        count: usize, pairs: usize,
+    ) -> Standing;
 }

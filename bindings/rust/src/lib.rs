@@ -5,7 +5,7 @@
 mod ffi;
 mod search;
 
-pub use search::{question, search, Found, Lists, Place};
+pub use search::{question, search, Found, Lists, Place, Room};
 
 /// A numbered refusal. The value is the record's number for 7, 9 and 10, the step's for 17, 18 and 19, and else 0.
 #[derive(Clone, Copy, Debug, PartialEq, Eq)]
@@ -27,8 +27,7 @@ impl std::fmt::Display for Refusal {
             8 => "the variables take more than 48 bits",
             9 => "an operator record is against the rules",
             10 => "a term record is against the rules",
-            11 => "the level list is too short",
-            12 => "the node or utility lists are unequal or too long",
+            12 => "the lists of pairs, the node or the utility lists are unequal or too long",
             13 => "the utility lists are too short",
             14 => "the node lists are too short",
             15 => "the plan list is too short",
@@ -39,6 +38,7 @@ impl std::fmt::Display for Refusal {
             20 => "the state has a wrong number of values, or one out of range",
             21 => "the lists are no diagrams of the task",
             22 => "the output list is too short",
+            23 => "the lists of pairs are too short",
             _ => "unknown cause",
         };
         write!(f, "refused {} {}: {cause}", self.number, self.value)

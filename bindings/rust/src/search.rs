@@ -1,12 +1,18 @@
 //! The search and the question, over vectors that are lent to the library for the call.
 
-use crate::{ffi, values, Refusal};
+use crate::{ffi, Refusal};
 
-/// The lists that a search is lent: levels, node and utility lists, working lists and the plan. A search writes into them, a
-/// question reads them again. Lengths may be anything; the search refuses those it cannot work with.
+/// The lists that a search is lent: the four lists of pairs, node and utility lists, working lists and the plan. A search writes into
+/// them, a question reads them again. Lengths may be anything; the search refuses those it cannot work with.
+///
+/// For each non-empty pair of cost and steps, in rising order, there are its cost, its steps, the name of the set of states that have
+/// this place, and that of those on a way to the best ones (0 past the best plan's pair).
 #[derive(Clone, Debug, Default, PartialEq, Eq)]
 pub struct Lists {
-    pub levels: Vec<u32>,
+    pub costs: Vec<u32>,
+    pub steps: Vec<u32>,
+    pub sets: Vec<u32>,
+    pub wanted: Vec<u32>,
     pub bit: Vec<u32>,
     pub low: Vec<u32>,
     pub high: Vec<u32>,
@@ -19,32 +25,35 @@ pub struct Lists {
     pub plan: Vec<u16>,
 }
 
-/// Levels for the greatest bound, and steps for the longest plan within it.
-const LEVELS: usize = 4_096;
+/// What lists have room for: nodes, utility entries, pairs, and steps of the plan. A plan has fewer steps than there are pairs, and there
+/// are no more pairs than states.
+#[derive(Clone, Copy, Debug, PartialEq, Eq)]
+pub struct Room {
+    pub nodes: usize,
+    pub utility: usize,
+    pub pairs: usize,
+    pub steps: usize,
+}
+
 /// Words of the memo's header, and for each node entry.
 const MEMO_HEADER: usize = 4_100;
-const MEMO_WORDS: usize = 8;
+const MEMO_WORDS: usize = 4;
 
 impl Lists {
-    /// Lists for so many nodes and utility entries, with working lists to match and room for every level and step.
-    pub fn new(nodes: usize, utility: usize) -> Lists {
-        Lists {
-            levels: vec![0; LEVELS],
-            bit: vec![0; nodes],
-            low: vec![0; nodes],
-            high: vec![0; nodes],
-            utility_bit: vec![0; utility],
-            utility_low: vec![0; utility],
-            utility_high: vec![0; utility],
-            heads: vec![0; nodes.max(utility)],
-            chain: vec![0; nodes.max(utility)],
-            memo: vec![0; MEMO_HEADER + MEMO_WORDS * nodes.max(utility)],
-            plan: vec![0; LEVELS],
-        }
+    /// Lists with this room and working lists to match, as laurelsnap_share makes them in C.
+    pub fn new(room: Room) -> Lists {
+        let working = room.nodes.max(room.utility);
+        let [costs, steps, sets, wanted] = [(); 4].map(|()| vec![0; room.pairs]);
+        let [bit, low, high] = [(); 3].map(|()| vec![0; room.nodes]);
+        let [utility_bit, utility_low, utility_high] = [(); 3].map(|()| vec![0; room.utility]);
+        let [heads, chain] = [(); 2].map(|()| vec![0; working]);
+        let memo = vec![0; MEMO_HEADER + MEMO_WORDS * working];
+        let plan = vec![0; room.steps];
+        Lists { costs, steps, sets, wanted, bit, low, high, utility_bit, utility_low, utility_high, heads, chain, memo, plan }
     }
 }
 
-/// What a search reports: the listing's figures, in the listing's order.
+/// What a search reports: the listing's figures, in the listing's order, and among them the number of non-empty pairs.
 #[derive(Clone, Copy, Debug, PartialEq, Eq)]
 #[repr(C)]
 pub struct Found {
@@ -60,6 +69,7 @@ pub struct Found {
     pub unused: u64,
     pub nodes: u64,
     pub entries: u64,
+    pub pairs: u64,
     pub steps: u64,
 }
 
@@ -70,23 +80,29 @@ impl Found {
     }
 }
 
-/// Where a state stands.
+/// Where a state stands: at its least cost and the fewest steps at that cost.
 #[derive(Clone, Copy, Debug, PartialEq, Eq)]
 pub enum Place {
-    LeastCost(u64),
+    At { cost: u64, steps: u64 },
     NotReached,
 }
 
-/// The search for the best plan (refusals 1 to 15). After refusals 1 to 12 the lists hold what they held before; after 13 levels, nodes
-/// and plan do; after 14 and 15 the plan does.
+/// The search for the best plan (refusals 1 to 15 and 23). After refusals 1 to 12 the lists hold what they held before; after 13 the lists
+/// of pairs, the nodes and the plan do; after 14, 15 and 23 the plan does.
 pub fn search(file: &[u8], lists: &mut Lists) -> Result<Found, Refusal> {
     // SAFETY: the pointers and lengths are those of a slice and of different vectors, lent for the call.
     let report = unsafe {
         ffi::laurelsnap_search(
             file.as_ptr(),
             file.len(),
-            lists.levels.as_mut_ptr(),
-            lists.levels.len(),
+            lists.costs.as_mut_ptr(),
+            lists.costs.len(),
+            lists.steps.as_mut_ptr(),
+            lists.steps.len(),
+            lists.sets.as_mut_ptr(),
+            lists.sets.len(),
+            lists.wanted.as_mut_ptr(),
+            lists.wanted.len(),
             lists.bit.as_mut_ptr(),
             lists.bit.len(),
             lists.low.as_mut_ptr(),
@@ -115,9 +131,9 @@ pub fn search(file: &[u8], lists: &mut Lists) -> Result<Found, Refusal> {
     Ok(report.found)
 }
 
-/// The question about one state, a byte per variable, over lists that a search has left with so many nodes (refusals 1 to 12, 20
+/// The question about one state, a byte per variable, over lists that a search has left with so many nodes and pairs (refusals 1 to 12, 20
 /// and 21).
-pub fn question(file: &[u8], lists: &Lists, nodes: u64, state: &[u8]) -> Result<Place, Refusal> {
+pub fn question(file: &[u8], lists: &Lists, nodes: u64, pairs: u64, state: &[u8]) -> Result<Place, Refusal> {
     // SAFETY: the pointers and lengths are those of slices, which are only read.
     let answer = unsafe {
         ffi::laurelsnap_question(
@@ -125,8 +141,14 @@ pub fn question(file: &[u8], lists: &Lists, nodes: u64, state: &[u8]) -> Result<
             file.len(),
             state.as_ptr(),
             state.len(),
-            lists.levels.as_ptr(),
-            lists.levels.len(),
+            lists.costs.as_ptr(),
+            lists.costs.len(),
+            lists.steps.as_ptr(),
+            lists.steps.len(),
+            lists.sets.as_ptr(),
+            lists.sets.len(),
+            lists.wanted.as_ptr(),
+            lists.wanted.len(),
             lists.bit.as_ptr(),
             lists.bit.len(),
             lists.low.as_ptr(),
@@ -134,7 +156,12 @@ pub fn question(file: &[u8], lists: &Lists, nodes: u64, state: &[u8]) -> Result<
             lists.high.as_ptr(),
             lists.high.len(),
             nodes as usize,
+            pairs as usize,
         )
     };
-    values(answer).map(|(cost, reached)| if reached == 1 { Place::LeastCost(cost) } else { Place::NotReached })
+    match (answer.number, answer.reached) {
+        (0, 0) => Ok(Place::NotReached),
+        (0, _) => Ok(Place::At { cost: answer.cost, steps: answer.steps }),
+        (number, _) => Err(Refusal { number, value: answer.value }),
+    }
 }

@@ -12,7 +12,7 @@ use borrow.Author.Tests.{lt-ltb, le-ltb, le-leb, ltb-true, ltb-false, leb-true, 
 use Rattle.planning.specs.Connectives.{_and_, _or_}
 use Rattle.planning.proofs.Guards.{and-go, or-go, or-stop, and-both, or-either}
 use Rattle.planning.proofs.Scan.{every-at, every-all}
-use Rattle.lent_lists.specs.Lists.{mostEntries, listsWrong, nameRight, childRight, entryRight, entriesRight, levelRight, namesRight, listed}
+use Rattle.lent_lists.specs.Lists.{mostEntries, listsWrong, pairsWrong, nameRight, childRight, entryRight, entriesRight, setRight, namesRight, listed}
 
 -- ---- the lengths
 -- neither test holds where their disjunction does not
@@ -28,6 +28,15 @@ equal-lengths l m n h =
     let p = or-neither _ _ h in
     let q = or-neither _ _ (p .1) in
     (eqb-true _ _ (not-false _ (p .0)), eqb-true _ _ (not-false _ (q .0)), ltb-false _ _ (q .1))
+
+-- and so are the four lists of pairs
+pub equal-pairs : (a b c d : ℕ) → pairsWrong a b c d ≡ false → (a ≡ b) × (b ≡ c) × (c ≡ d) × (a ≤ mostEntries)
+unfolding pairsWrong
+equal-pairs a b c d h =
+    let p = or-neither _ _ h in
+    let q = or-neither _ _ (p .1) in
+    let r = or-neither _ _ (q .1) in
+    (eqb-true _ _ (not-false _ (p .0)), eqb-true _ _ (not-false _ (q .0)), eqb-true _ _ (not-false _ (r .0)), ltb-false _ _ (r .1))
 
 -- ---- a child
 -- a child of the entry k is 0, 1 or an earlier entry
@@ -74,24 +83,27 @@ name-right k c h = by (decLt c 2)
     by (no ge) = sym (or-go _ _ _ (le-ltb c 2 (omega arith)) (sym (lt-ltb (c - 2) k (omega arith))))
 
 -- ---- the whole test
--- the entries are in the lists and of a task of n bits; a child is earlier, and a child entry of a higher bit; names are below the count
-pub record RightLists (n b : ℕ) (levels bit low high : List ℕ) (count : ℕ) : Type 0 where
+-- the entries are in the lists and of a task of n bits; a child is earlier, and a child entry of a higher bit; the pairs are in their lists, and the
+-- names of their sets below the count
+pub record RightLists (n pairs : ℕ) (sets bit low high : List ℕ) (count : ℕ) : Type 0 where
   pub room : count ≤ length bit
   pub bit-below : (k : ℕ) → k < count → getD bit k 0 < n
   pub low-earlier : (k : ℕ) → k < count → getD low k 0 < k + 2
   pub low-rises : (k : ℕ) → k < count → 2 ≤ getD low k 0 → getD bit k 0 < getD bit (getD low k 0 - 2) 0
   pub high-earlier : (k : ℕ) → k < count → getD high k 0 < k + 2
   pub high-rises : (k : ℕ) → k < count → 2 ≤ getD high k 0 → getD bit k 0 < getD bit (getD high k 0 - 2) 0
-  pub name-below : (g : ℕ) → g ≤ b → getD levels g 0 < count + 2
+  pub pairs-room : pairs ≤ length sets
+  pub name-below : (i : ℕ) → i < pairs → getD sets i 0 < count + 2
 
-module _ (n b : ℕ) (levels bit low high : List ℕ) (count : ℕ) where
-  module _ (h : listed n b levels bit low high count ≡ true) where
-    parts : (leb count (length bit) ≡ true) × (entriesRight n bit low high count ≡ true) × (namesRight levels b count ≡ true)
+module _ (n pairs : ℕ) (sets bit low high : List ℕ) (count : ℕ) where
+  module _ (h : listed n pairs sets bit low high count ≡ true) where
+    parts : (leb count (length bit) ≡ true) × (entriesRight n bit low high count ≡ true) × (leb pairs (length sets) ≡ true) × (namesRight sets pairs count ≡ true)
     unfolding listed
     parts =
         let p = and-both _ _ h in
         let q = and-both _ _ (p .1) in
-        (p .0, q .0, q .1)
+        let r = and-both _ _ (q .1) in
+        (p .0, q .0, r .0, r .1)
 
     entry : (k : ℕ) → k < count → (ltb (getD bit k 0) n ≡ true) × (childRight bit k (getD low k 0) ≡ true) × (childRight bit k (getD high k 0) ≡ true)
     unfolding entriesRight entryRight
@@ -100,11 +112,11 @@ module _ (n b : ℕ) (levels bit low high : List ℕ) (count : ℕ) where
         let q = and-both _ _ (p .1) in
         (p .0, q .0, q .1)
 
-    level-name : (g : ℕ) → g ≤ b → getD levels g 0 < count + 2
-    unfolding namesRight levelRight
-    level-name g le = name-below count (getD levels g 0) (every-at (levelRight levels count) (b + 1) 0 (parts .2) g (omega arith) (omega arith))
+    set-name : (i : ℕ) → i < pairs → getD sets i 0 < count + 2
+    unfolding namesRight setRight
+    set-name i lt = name-below count (getD sets i 0) (every-at (setRight sets count) pairs 0 (parts .3) i (omega arith) (omega arith))
 
-    pub listed-is : RightLists n b levels bit low high count
+    pub listed-is : RightLists n pairs sets bit low high count
     listed-is =
         record {
           room = leb-true _ _ (parts .0);
@@ -113,10 +125,11 @@ module _ (n b : ℕ) (levels bit low high : List ℕ) (count : ℕ) where
           low-rises = λ k lt. child-rises bit k (getD low k 0) (entry k lt .1);
           high-earlier = λ k lt. child-earlier bit k (getD high k 0) (entry k lt .2);
           high-rises = λ k lt. child-rises bit k (getD high k 0) (entry k lt .2);
-          name-below = level-name;
+          pairs-room = leb-true _ _ (parts .2);
+          name-below = set-name;
         }
 
-  module _ (l : RightLists n b levels bit low high count) where
+  module _ (l : RightLists n pairs sets bit low high count) where
     entry-right : (k : ℕ) → k < count → entryRight n bit low high k ≡ true
     unfolding entryRight
     entry-right k lt =
@@ -124,9 +137,10 @@ module _ (n b : ℕ) (levels bit low high : List ℕ) (count : ℕ) where
         (and-go _ _ _ (child-right bit k (getD low k 0) (l .low-earlier k lt) (l .low-rises k lt))
         (sym (child-right bit k (getD high k 0) (l .high-earlier k lt) (l .high-rises k lt)))))
 
-    pub listed-passes : listed n b levels bit low high count ≡ true
-    unfolding listed entriesRight namesRight levelRight
+    pub listed-passes : listed n pairs sets bit low high count ≡ true
+    unfolding listed entriesRight namesRight setRight
     listed-passes =
         sym (and-go _ _ _ (le-leb _ _ (l .room))
         (and-go _ _ _ (every-all (entryRight n bit low high) count 0 (λ k from to. entry-right k (omega arith)))
-        (sym (every-all (levelRight levels count) (b + 1) 0 (λ g from to. name-right count (getD levels g 0) (l .name-below g (omega arith)))))))
+        (and-go _ _ _ (le-leb _ _ (l .pairs-room))
+        (sym (every-all (setRight sets count) pairs 0 (λ i from to. name-right count (getD sets i 0) (l .name-below i (omega arith))))))))

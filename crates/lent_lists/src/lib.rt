@@ -1,25 +1,25 @@
-// The tests of the lists that a caller lends: refusals 11, 12 and 21. A number past a list's end is read as 0, so that each test has an
+// The tests of the lists that a caller lends: refusals 12 and 21. A number past a list's end is read as 0, so that each test has an
 // answer on any lists. Each goes once through what it reads.
 ghost use mathlib.Core.Path.{_≡_};
 ghost use Prim.Native.Nat.{_<_};
 ghost use lib.ListN.{getD};
-ghost use Rattle.lent_lists.specs.Lists.{levelsShort, listsWrong, nameRight, childRight, entryRight, entriesRight, levelRight, namesRight, listed};
+ghost use Rattle.lent_lists.specs.Lists.{listsWrong, pairsWrong, nameRight, childRight, entryRight, entriesRight, setRight, namesRight, listed};
 
-// The most entries that node lists, and utility lists, may have.
+// The most entries that node lists, utility lists, and the lists of pairs may have.
 const MOST_ENTRIES: usize = 1048576;
-
-// 11: a level list of n names is shorter than b + 1.
-pub fn levels_short(n: usize, b: u16) -> bool
-    ensures { λ r. ⌜ r ≡ levelsShort n b ⌝ }
-{
-    n < b as usize + 1
-}
 
 // 12: three lists of these lengths are unequal, or too long.
 pub fn lists_wrong(l: usize, m: usize, n: usize) -> bool
     ensures { λ r. ⌜ r ≡ listsWrong l m n ⌝ }
 {
     l != m || (m != n || MOST_ENTRIES < l)
+}
+
+// 12: four lists of pairs of these lengths are unequal, or too long.
+pub fn pairs_wrong(a: usize, b: usize, c: usize, d: usize) -> bool
+    ensures { λ r. ⌜ r ≡ pairsWrong a b c d ⌝ }
+{
+    a != b || (b != c || (c != d || MOST_ENTRIES < a))
 }
 
 // The number at a place of a list, or 0.
@@ -69,39 +69,38 @@ fn entries_right(n: usize, bit: &[u32], low: &[u32], high: &[u32], count: usize)
     true
 }
 
-// The name of level g.
-fn level_right(levels: &[u32], count: usize, g: usize) -> bool
-    ensures { λ r. ⌜ r ≡ levelRight (now (levels .entry)) count g ⌝ }
+// The name of the set of pair i.
+fn set_right(sets: &[u32], count: usize, i: usize) -> bool
+    ensures { λ r. ⌜ r ≡ setRight (now (sets .entry)) count i ⌝ }
 {
-    name_right(count, number(levels, g))
+    name_right(count, number(sets, i))
 }
 
-// The names of levels 0 to b.
-fn names_right(levels: &[u32], b: u16, count: usize) -> bool
-    ensures { λ r. ⌜ r ≡ namesRight (now (levels .entry)) b count ⌝ }
+// The names of the sets of the first pairs, that many.
+fn names_right(sets: &[u32], pairs: usize, count: usize) -> bool
+    ensures { λ r. ⌜ r ≡ namesRight (now (sets .entry)) pairs count ⌝ }
 {
-    let n = b as usize + 1;
-    let mut g = 0;
-    while g < n {
-        if !level_right(levels, count, g) {
+    let mut i = 0;
+    while i < pairs {
+        if !set_right(sets, count, i) {
             return false;
         }
-        g += 1;
+        i += 1;
     }
     true
 }
 
-// 21, for a task of n bits with the bound b: the lists pass the whole test.
+// 21, for a task of n bits and that many pairs: the lists pass the whole test.
 pub fn listed(
     n: usize,
-    b: u16,
-    levels: &[u32],
+    pairs: usize,
+    sets: &[u32],
     bit: &[u32],
     low: &[u32],
     high: &[u32],
     count: usize,
 ) -> bool
-    ensures { λ r. ⌜ r ≡ listed n b (now (levels .entry)) (now (bit .entry)) (now (low .entry)) (now (high .entry)) count ⌝ }
+    ensures { λ r. ⌜ r ≡ listed n pairs (now (sets .entry)) (now (bit .entry)) (now (low .entry)) (now (high .entry)) count ⌝ }
 {
     if bit.len() < count {
         return false;
@@ -109,5 +108,8 @@ pub fn listed(
     if !entries_right(n, bit, low, high, count) {
         return false;
     }
-    names_right(levels, b, count)
+    if sets.len() < pairs {
+        return false;
+    }
+    names_right(sets, pairs, count)
 }

@@ -17,8 +17,8 @@ ghost use Rattle.osp_list.specs.StepsFit.{StepsFit};
 // One byte more than a task file may have, so that a longer input is refused for its length.
 const MOST_BYTES: usize = 16385;
 
-// The lengths of the lent lists: names of levels, node entries, utility entries, memo and plan.
-const LEVELS: usize = 4096;
+// The lengths of the lent lists: pairs, node entries, utility entries, memo and plan.
+const PAIRS: usize = 4096;
 
 const NODES: usize = 1024;
 
@@ -108,7 +108,10 @@ fn print_answer(file: &[u8], plan: &[u16], answer: Searched)
 
 // Searches in lists of its own, and prints the answer.
 fn run(file: &[u8]) {
-    let mut levels = [0u32; LEVELS];
+    let mut costs = [0u32; PAIRS];
+    let mut steps = [0u32; PAIRS];
+    let mut sets = [0u32; PAIRS];
+    let mut wanted = [0u32; PAIRS];
     let mut bit = [0u32; NODES];
     let mut low = [0u32; NODES];
     let mut high = [0u32; NODES];
@@ -121,7 +124,10 @@ fn run(file: &[u8]) {
     let mut plan = [0u16; STEPS];
     let answer = search(
         file,
-        &mut levels,
+        &mut costs,
+        &mut steps,
+        &mut sets,
+        &mut wanted,
         &mut bit,
         &mut low,
         &mut high,

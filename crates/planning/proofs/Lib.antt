@@ -14,6 +14,9 @@ pub mod Words
 pub mod Cubes
 pub mod Masks
 pub mod Moves
+pub mod Count
+pub mod Shorten
+pub mod Pairs
 pub mod Exhaustive
 pub mod Theorems
 pub mod Cases

@@ -4,6 +4,7 @@ use mathlib.Core.Path.{_≡_}
 use mathlib.Core.List.{List, [], _∷_}
 use Rattle.planning.specs.Model.{Fact, Task, ceiling, cost, utility}
 use Rattle.planning.specs.Best.{Best}
+use Rattle.planning.specs.Pairs.{byPairs}
 use Rattle.planning.specs.Exhaustive.{best}
 
 unfoldable pub fact : ℕ → ℕ → Fact
@@ -38,10 +39,11 @@ Q b = record {
   bound = b;
 }
 
--- a row of the table of plans: the best plan p, its utility u of the ceiling, and its cost c; trying every sequence finds it
+-- a row of the table of plans: the best plan p, its utility u of the ceiling, and its cost c; trying every sequence, with numbers of pairs
+-- for costs, finds it
 pub record PlanRow (t : Task) (p : List ℕ) (u top c : ℕ) : Type 0 where
   pub plan : Best t p
-  pub found : best t ≡ p
+  pub found : best (byPairs t) ≡ p
   pub utility : utility t p ≡ u
   pub most : ceiling (t .terms) ≡ top
   pub costs : cost t p ≡ c

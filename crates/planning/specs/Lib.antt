@@ -3,6 +3,8 @@ pub mod Connectives
 pub mod Model
 pub mod Coding
 pub mod Best
+pub mod ByCost
+pub mod Pairs
 pub mod Exhaustive
 pub mod Cases
 pub mod Scan

@@ -1,5 +1,5 @@
 -- Laws of the question, and what its answer says of a task (Theorem).
-pub mod Costs
+pub mod Places
 pub mod States
 pub mod Walking
 pub mod Asking

@@ -1,22 +1,18 @@
--- Lists that pass 11, 12 and 21 can be walked.
-use Prim.Native.Nat.{ℕ, _+_, _≤_}
+-- Lists that pass 12 and 21 can be walked.
+use Prim.Native.Nat.{ℕ}
 use mathlib.Core.Path.{_≡_}
 use mathlib.Core.Bool.{true, false}
 use mathlib.Core.List.{List}
 use native.Mathlib.Omega.{arith}
 use lib.ListN.{length}
-use borrow.Author.Tests.{ltb-false}
-use Rattle.lent_lists.specs.Lists.{levelsShort, listsWrong, listed}
-use Rattle.lent_lists.proofs.Passing.{equal-lengths, listed-is}
-use Rattle.question.specs.Levelled.{Levelled}
+use Rattle.lent_lists.specs.Lists.{listsWrong, pairsWrong, listed}
+use Rattle.lent_lists.proofs.Passing.{equal-lengths, equal-pairs, listed-is}
+use Rattle.question.specs.PairSets.{PairSets}
 
-long-enough : (n b : ℕ) → levelsShort n b ≡ false → b + 1 ≤ n
-unfolding levelsShort
-long-enough n b h = ltb-false _ _ h
-
-pub levelled : (n b : ℕ) (levels bit low high : List ℕ) (count : ℕ) → levelsShort (length levels) b ≡ false → listsWrong (length bit) (length low) (length high) ≡ false → listed n b levels bit low high count ≡ true → Levelled levels bit low high count (b + 1)
-levelled n b levels bit low high count long right passes =
-    let l = listed-is n b levels bit low high count passes in
+pub pair-sets : (n : ℕ) (costs steps sets wanted bit low high : List ℕ) (count pairs : ℕ) → pairsWrong (length costs) (length steps) (length sets) (length wanted) ≡ false → listsWrong (length bit) (length low) (length high) ≡ false → listed n pairs sets bit low high count ≡ true → PairSets costs steps sets bit low high count pairs
+pair-sets n costs steps sets wanted bit low high count pairs equal right passes =
+    let l = listed-is n pairs sets bit low high count passes in
+    let p = equal-pairs _ _ _ _ equal in
     let e = equal-lengths _ _ _ right in
     record {
       walkable =
@@ -27,6 +23,8 @@ levelled n b levels bit low high count long right passes =
             low-earlier = l .low-earlier;
             high-earlier = l .high-earlier;
           };
-      room = long-enough _ b long;
-      names = λ g lt. l .name-below g (omega arith);
+      costs-room = omega (arith, l .pairs-room, p .0, p .1);
+      steps-room = omega (arith, l .pairs-room, p .1);
+      sets-room = l .pairs-room;
+      names = l .name-below;
     }

@@ -6,23 +6,30 @@ use mathlib.Core.List.{List}
 use lib.ListN.{length, getD}
 use Rattle.planning.specs.Model.{Task}
 use Rattle.planning.specs.Coding.{bits}
-use Rattle.planning.specs.Best.{Cheapest}
-use Rattle.lent_lists.specs.Lists.{levelsShort, listsWrong, listed}
+use Rattle.planning.specs.Best.{Place}
+use Rattle.planning.specs.Pairs.{pairCost, pairSteps, byPairs}
+use Rattle.lent_lists.specs.Lists.{listsWrong, pairsWrong, listed}
 use Rattle.diagrams.specs.Tree.{named, trees}
 use Rattle.search_theory.specs.Bits.{bitTask}
 use Rattle.search_theory.specs.Levels.{level}
+use Rattle.search_theory.specs.Pairs.{pairs}
 use Rattle.question.specs.declared.Answered.{Answered}
-use Rattle.question.specs.declared.Answered.the-variants.{Refused, Least, NotReached}
+use Rattle.question.specs.declared.Answered.the-variants.{Refused, Reached, NotReached}
 
--- the lists pass 11, 12 and 21, and name the levels of the task: so a successful search leaves them
-pub record NamesLevels (t : Task) (levels bit low high : List ℕ) (count : ℕ) : Type 0 where
-  pub long : levelsShort (length levels) (t .bound) ≡ false
+-- the lists pass 12 and 21, and hold the cost, the steps and the name of the set of each of the task's n non-empty pairs: so a successful
+-- search leaves them
+pub record NamesPairs (t : Task) (costs steps sets wanted bit low high : List ℕ) (count n : ℕ) : Type 0 where
+  pub equal : pairsWrong (length costs) (length steps) (length sets) (length wanted) ≡ false
   pub right : listsWrong (length bit) (length low) (length high) ≡ false
-  pub passes : listed (bits (t .sizes)) (t .bound) levels bit low high count ≡ true
-  pub names : (g : ℕ) → g ≤ t .bound → named (trees bit low high count) (getD levels g 0) ≡ level (bitTask t) g
+  pub passes : listed (bits (t .sizes)) n sets bit low high count ≡ true
+  pub number : n ≡ length (pairs t)
+  pub cost : (i : ℕ) → i < n → getD costs i 0 ≡ pairCost t (getD (pairs t) i 0)
+  pub step : (i : ℕ) → i < n → getD steps i 0 ≡ pairSteps t (getD (pairs t) i 0)
+  pub names : (i : ℕ) → i < n → named (trees bit low high count) (getD sets i 0) ≡ level (bitTask (byPairs t)) (getD (pairs t) i 0)
 
--- the answer is the cost of the cheapest applicable sequence to the state s if that is at most the bound, else "not reached"
+-- the answer is the place of the state s, its least cost and the fewest steps at that cost, if that cost is at most the bound, else "not
+-- reached"
 abbrev pub Tells : Task → List ℕ → Answered → Type 0
 Tells t s (Refused number place) = ⊥
-Tells t s (Least g) = Cheapest t s g × (g ≤ t .bound)
-Tells t s NotReached = (g : ℕ) → Cheapest t s g → t .bound < g
+Tells t s (Reached c k) = Place t s c k × (c ≤ t .bound)
+Tells t s NotReached = (c k : ℕ) → Place t s c k → t .bound < c

@@ -1,5 +1,6 @@
--- The question about one state: the least cost at which it is reached, by lists that an earlier search left and that nobody vouches for.
-use Prim.Native.Nat.{ℕ, zero, suc, _+_}
+-- The question about one state: its least cost and the fewest steps at that cost, by lists that an earlier search left and that nobody
+-- vouches for.
+use Prim.Native.Nat.{ℕ, zero, suc}
 use mathlib.Core.Bool.{Bool}
 use mathlib.Core.List.{List}
 use lib.Dec.{eqb, ltb}
@@ -7,13 +8,12 @@ use lib.ListN.{length, getD}
 use Rattle.planning.specs.Connectives.{_and_, pick}
 use Rattle.planning.specs.Scan.{every}
 use Rattle.planning.specs.Coding.{bits, code}
-use Rattle.lent_lists.specs.Lists.{levelsShort, listsWrong, listed}
+use Rattle.lent_lists.specs.Lists.{listsWrong, pairsWrong, listed}
 use Rattle.diagrams.specs.Tree.{Tree, named, trees, member}
-use Rattle.task.specs.Format.{bound}
 use Rattle.task.specs.Decode.{sizes}
 use Rattle.task.specs.Check.{checkOf, accepted}
 use Rattle.question.specs.declared.Answered.{Answered}
-use Rattle.question.specs.declared.Answered.the-variants.{Refused, Least, NotReached}
+use Rattle.question.specs.declared.Answered.the-variants.{Refused, Reached, NotReached}
 
 -- ---- 20, of a state of a task whose variables have these numbers of values
 -- the value of variable v is in its range
@@ -25,27 +25,27 @@ unfoldable pub stateRight : List ℕ → List ℕ → Bool
 stateRight ds state = eqb (length state) (length ds) and every (valueRight ds state) (length ds) 0
 
 -- ---- the answer
--- the set that the name of level g stands for holds the state with the bits σ
-unfoldable pub inLevel : List ℕ → List Tree → List Bool → ℕ → Bool
-inLevel levels entries σ g = member (named entries (getD levels g 0)) σ
+-- the set of pair i holds the state with the bits σ
+unfoldable pub inSet : List ℕ → List Tree → List Bool → ℕ → Bool
+inSet sets entries σ i = member (named entries (getD sets i 0)) σ
 
--- the least of the n costs from g whose set holds the state
-unfoldable pub leastFrom : (ℕ → Bool) → ℕ → ℕ → Answered
-leastFrom holds zero g = NotReached
-leastFrom holds (suc n) g = pick (holds g) (Least g) (leastFrom holds n (suc g))
+-- cost and steps of the first of the n pairs from i whose set holds the state
+unfoldable pub placeFrom : List ℕ → List ℕ → (ℕ → Bool) → ℕ → ℕ → Answered
+placeFrom costs steps holds zero i = NotReached
+placeFrom costs steps holds (suc n) i = pick (holds i) (Reached (getD costs i 0) (getD steps i 0)) (placeFrom costs steps holds n (suc i))
 
--- 11, 12, 20, 21 and the answer, for a task whose variables have these numbers of values, with the bound b
-unfoldable pub askOf : List ℕ → ℕ → List ℕ → List ℕ → List ℕ → List ℕ → List ℕ → ℕ → Answered
-askOf ds b state levels bit low high count =
-    pick (levelsShort (length levels) b) (Refused 11 0)
+-- 12, for the lists of pairs and for the node lists; 20, 21 and the answer; for a task whose variables have these numbers of values
+unfoldable pub askOf : List ℕ → List ℕ → List ℕ → List ℕ → List ℕ → List ℕ → List ℕ → List ℕ → List ℕ → ℕ → ℕ → Answered
+askOf ds state costs steps sets wanted bit low high count pairs =
+    pick (pairsWrong (length costs) (length steps) (length sets) (length wanted)) (Refused 12 0)
     (pick (listsWrong (length bit) (length low) (length high)) (Refused 12 0)
     (pick (stateRight ds state)
-    (pick (listed (bits ds) b levels bit low high count)
-    (leastFrom (inLevel levels (trees bit low high count) (code ds state)) (b + 1) 0)
+    (pick (listed (bits ds) pairs sets bit low high count)
+    (placeFrom costs steps (inSet sets (trees bit low high count) (code ds state)) pairs 0)
     (Refused 21 0))
     (Refused 20 0)))
 
 -- the file check first
-unfoldable pub questionOf : List ℕ → List ℕ → List ℕ → List ℕ → List ℕ → List ℕ → ℕ → Answered
-questionOf file state levels bit low high count =
-    pick (accepted file) (askOf (sizes file) (bound file) state levels bit low high count) (Refused (checkOf file .0) (checkOf file .1))
+unfoldable pub questionOf : List ℕ → List ℕ → List ℕ → List ℕ → List ℕ → List ℕ → List ℕ → List ℕ → List ℕ → ℕ → ℕ → Answered
+questionOf file state costs steps sets wanted bit low high count pairs =
+    pick (accepted file) (askOf (sizes file) state costs steps sets wanted bit low high count pairs) (Refused (checkOf file .0) (checkOf file .1))

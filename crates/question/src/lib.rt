@@ -1,11 +1,11 @@
-// The question about one state: the least cost at which it is reached, by the lists that an earlier search left.
+// The question about one state: its place, the least cost at which it is reached and the fewest steps at that cost, by the lists that an
+// earlier search left.
 use diagrams::member::member;
-use lent_lists::levels_short;
 use lent_lists::listed;
 use lent_lists::lists_wrong;
+use lent_lists::pairs_wrong;
 use task::bytes::byte;
 use task::coding::bits;
-use task::header::bound;
 use task::header::variables;
 use task::records::size;
 use task_check::Checked;
@@ -15,18 +15,18 @@ ghost use mathlib.Core.Path.{_≡_};
 ghost use Prim.Native.Nat.{_<_};
 ghost use mathlib.Core.Bool.{true};
 ghost use Rattle.diagrams.specs.Tree.{trees};
-ghost use Rattle.task.specs.Format.{variables, bound};
+ghost use Rattle.task.specs.Format.{variables};
 ghost use Rattle.task.specs.Check.{accepted};
 ghost use Rattle.task.specs.Decode.{sizes};
-ghost use Rattle.question.specs.Question.{valueRight, stateRight, leastFrom, askOf, questionOf};
-ghost use Rattle.question.specs.Levelled.{Levelled, heldAt};
+ghost use Rattle.question.specs.Question.{valueRight, stateRight, placeFrom, askOf, questionOf};
+ghost use Rattle.question.specs.PairSets.{PairSets, heldAt};
 
-// What the question answers (specs/Answers.antt has document 01's number and values for each case).
+// What the question answers (specs/Answers.antt has the documents' number and values for each case).
 pub enum Answered {
     // The refusal's number, and the record that it is about, or 0.
     Refused { number: u8, place: u16 },
-    // The least cost whose set holds the state.
-    Least { cost: usize },
+    // Cost and steps of the first pair whose set holds the state.
+    Reached { cost: usize, steps: usize },
     NotReached,
 }
 
@@ -56,9 +56,11 @@ fn state_right(file: &[u8], state: &[u8]) -> bool
     true
 }
 
-// The least cost below n whose set holds the state.
-fn least(
-    levels: &[u32],
+// Cost and steps of the first of n pairs whose set holds the state.
+fn place(
+    costs: &[u32],
+    steps: &[u32],
+    sets: &[u32],
     bit: &[u32],
     low: &[u32],
     high: &[u32],
@@ -66,17 +68,20 @@ fn least(
     n: usize,
     state: u64,
 ) -> Answered
-    requires { ⌜ Levelled (now levels) (now bit) (now low) (now high) count n ⌝ }
+    requires { ⌜ PairSets (now costs) (now steps) (now sets) (now bit) (now low) (now high) count n ⌝ }
     ensures { λ r.
         let entries = trees (now (bit .entry)) (now (low .entry)) (now (high .entry)) count in
-        ⌜ r ≡ leastFrom (heldAt (now (levels .entry)) entries state) n 0 ⌝ }
+        ⌜ r ≡ placeFrom (now (costs .entry)) (now (steps .entry)) (heldAt (now (sets .entry)) entries state) n 0 ⌝ }
 {
-    let mut g = 0;
-    while g < n {
-        if member(bit, low, high, count, levels[g], state) {
-            return Answered::Least { cost: g };
+    let mut i = 0;
+    while i < n {
+        if member(bit, low, high, count, sets[i], state) {
+            return Answered::Reached {
+                cost: costs[i] as usize,
+                steps: steps[i] as usize,
+            };
         }
-        g += 1;
+        i += 1;
     }
     Answered::NotReached
 }
@@ -88,24 +93,27 @@ fn refusal(number: u8) -> Answered
     Answered::Refused { number, place: 0 }
 }
 
-// The tests from 11 on, and the answer, for an accepted file.
+// The tests from 12 on, and the answer, for an accepted file.
 fn ask(
     file: &[u8],
     state: &[u8],
-    levels: &[u32],
+    costs: &[u32],
+    steps: &[u32],
+    sets: &[u32],
+    wanted: &[u32],
     bit: &[u32],
     low: &[u32],
     high: &[u32],
     count: usize,
+    pairs: usize,
 ) -> Answered
     requires { ⌜ accepted (now file) ≡ true ⌝ }
     ensures { λ r.
-        let f = now (file .entry) in
-        ⌜ r ≡ askOf (sizes f) (bound f) (now (state .entry)) (now (levels .entry)) (now (bit .entry)) (now (low .entry)) (now (high .entry)) count ⌝ }
+        ⌜ r ≡ askOf (sizes (now (file .entry))) (now (state .entry))
+        (now (costs .entry)) (now (steps .entry)) (now (sets .entry)) (now (wanted .entry)) (now (bit .entry)) (now (low .entry)) (now (high .entry)) count pairs ⌝ }
 {
-    let b = bound(file) as u16;
-    if levels_short(levels.len(), b) {
-        return refusal(11);
+    if pairs_wrong(costs.len(), steps.len(), sets.len(), wanted.len()) {
+        return refusal(12);
     }
     if lists_wrong(bit.len(), low.len(), high.len()) {
         return refusal(12);
@@ -113,28 +121,46 @@ fn ask(
     if !state_right(file, state) {
         return refusal(20);
     }
-    if !listed(bits(file), b, levels, bit, low, high, count) {
+    if !listed(bits(file), pairs, sets, bit, low, high, count) {
         return refusal(21);
     }
     let word = state_word(file, state);
-    least(levels, bit, low, high, count, b as usize + 1, word)
+    place(costs, steps, sets, bit, low, high, count, pairs, word)
 }
 
-// The least cost, at most the bound, whose set in the lists holds the state: one byte for each variable, in file order. Tests 1 to 12,
-// without utility lists, then 20 and 21.
+// The cost and the steps of the first pair, of that many, whose set in the lists holds the state: one byte for each variable, in file
+// order. Tests 1 to 10 and 12, without utility lists, then 20 and 21.
 pub fn question(
     file: &[u8],
     state: &[u8],
-    levels: &[u32],
+    costs: &[u32],
+    steps: &[u32],
+    sets: &[u32],
+    wanted: &[u32],
     bit: &[u32],
     low: &[u32],
     high: &[u32],
     count: usize,
+    pairs: usize,
 ) -> Answered
-    ensures { λ r. ⌜ r ≡ questionOf (now (file .entry)) (now (state .entry)) (now (levels .entry)) (now (bit .entry)) (now (low .entry)) (now (high .entry)) count ⌝ }
+    ensures { λ r.
+        ⌜ r ≡ questionOf (now (file .entry)) (now (state .entry))
+        (now (costs .entry)) (now (steps .entry)) (now (sets .entry)) (now (wanted .entry)) (now (bit .entry)) (now (low .entry)) (now (high .entry)) count pairs ⌝ }
 {
     if let Checked::Refused { number, place } = check(file) {
         return Answered::Refused { number, place };
     }
-    ask(file, state, levels, bit, low, high, count)
+    ask(
+        file,
+        state,
+        costs,
+        steps,
+        sets,
+        wanted,
+        bit,
+        low,
+        high,
+        count,
+        pairs,
+    )
 }

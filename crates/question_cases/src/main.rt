@@ -1,6 +1,6 @@
-// The question's cases, one to a line of the input: its name, then a digit for each value of the state, each name of the level list, and each
-// bit, low child and high child of the node lists, then the count of entries. It asks them of the stand's P with the bound 2, and prints
-// each name with the answer.
+// The question's cases, one to a line of the input: its name, then a digit for each value of the state, each cost, steps, set and wanted set
+// of the lists of pairs, and each bit, low child and high child of the node lists, then the count of entries and the number of pairs. It
+// asks them of the stand's P with the bound 2, and prints each name with the answer.
 use question::Answered;
 use question::question;
 use task::bytes::byte;
@@ -20,9 +20,11 @@ fn show(answer: Answered) {
             io::write_all(1, b" ");
             io::print_decimal(1, place as u64);
         }
-        Answered::Least { cost } => {
+        Answered::Reached { cost, steps } => {
             io::write_all(1, b": cost ");
             io::print_decimal(1, cost as u64);
+            io::write_all(1, b" steps ");
+            io::print_decimal(1, steps as u64);
         }
         Answered::NotReached => {
             io::write_all(1, b": not reached");
@@ -102,37 +104,82 @@ fn numbers(line: &[u8], at: usize) -> [u32; 8]
     list
 }
 
+// The answer to a case whose state and lists of pairs are read: from a place on stand the node lists, the count and the number of pairs.
+fn with_nodes(
+    file: &[u8],
+    state: &[u8],
+    costs: &[u32],
+    steps: &[u32],
+    sets: &[u32],
+    wanted: &[u32],
+    line: &[u8],
+    at: usize,
+) -> Answered
+    requires { ⌜ at ≤ 32768 ⌝ }
+{
+    let n = digits(line, at);
+    let bit = numbers(line, at);
+    let a = at + n + 1;
+    let m = digits(line, a);
+    let low = numbers(line, a);
+    let b = a + m + 1;
+    let h = digits(line, b);
+    let high = numbers(line, b);
+    let c = b + h + 1;
+    let count = digit(line, c);
+    let pairs = digit(line, c + 2);
+    question(
+        file,
+        state,
+        costs,
+        steps,
+        sets,
+        wanted,
+        &bit[..n],
+        &low[..m],
+        &high[..h],
+        count,
+        pairs,
+    )
+}
+
+// The answer to a case whose state is read: from a place on stand the lists of pairs, and what follows them.
+fn with_pairs(file: &[u8], state: &[u8], line: &[u8], at: usize) -> Answered
+    requires { ⌜ at ≤ 16384 ⌝ }
+{
+    let c = digits(line, at);
+    let costs = numbers(line, at);
+    let a = at + c + 1;
+    let k = digits(line, a);
+    let steps = numbers(line, a);
+    let b = a + k + 1;
+    let n = digits(line, b);
+    let sets = numbers(line, b);
+    let d = b + n + 1;
+    let w = digits(line, d);
+    let wanted = numbers(line, d);
+    with_nodes(
+        file,
+        state,
+        &costs[..c],
+        &steps[..k],
+        &sets[..n],
+        &wanted[..w],
+        line,
+        d + w + 1,
+    )
+}
+
 // One case: its name, and the answer.
 fn case(file: &[u8], line: &[u8])
     requires { ⌜ length (now line) ≤ 4096 ⌝ }
 {
     let name = colon(line);
-    let a = name + 2;
-    let s = digits(line, a);
-    let b = a + s + 1;
-    let l = digits(line, b);
-    let c = b + l + 1;
-    let n = digits(line, c);
-    let d = c + n + 1;
-    let m = digits(line, d);
-    let e = d + m + 1;
-    let h = digits(line, e);
-    let count = digit(line, e + h + 1);
-    let state = values(line, a);
-    let levels = numbers(line, b);
-    let bit = numbers(line, c);
-    let low = numbers(line, d);
-    let high = numbers(line, e);
     io::write_all(1, &line[..name]);
-    show(question(
-        file,
-        &state[..s],
-        &levels[..l],
-        &bit[..n],
-        &low[..m],
-        &high[..h],
-        count,
-    ));
+    let at = name + 2;
+    let n = digits(line, at);
+    let state = values(line, at);
+    show(with_pairs(file, &state[..n], line, at + n + 1));
 }
 
 fn main() {

@@ -1,4 +1,4 @@
--- A search's answer as C gets it: document 01's number and value, and the figures.
+-- A search's answer as C gets it: the documents' number and value, and the figures.
 use Prim.Native.Nat.{ℕ}
 use Rattle.search_answer.specs.declared.Listing.{Listing}
 use Rattle.search_answer.specs.declared.Searched.{Searched}
@@ -20,6 +20,7 @@ totalsWith number value l = record {
   unused = timeOf (l .cost) (l .bound) .unused;
   nodes = l .nodes;
   entries = l .entries;
+  pairs = l .pairs;
   steps = l .steps;
 }
 

@@ -1,4 +1,5 @@
-// The answers of check, writer, walk, question and search as callers in C get them: document 01's number and two values, or a listing's figures.
+// The answers of check, writer, walk, question and search as callers in C get them: the documents' number and values, a state's place, or a
+// listing's figures.
 use question::Answered;
 use search_answer::Listing;
 use search_answer::Searched;
@@ -13,10 +14,10 @@ ghost use Rattle.writer.specs.Answers.{numbers as writeNumbers};
 ghost use Rattle.walk.specs.Answers.{numbers as walkNumbers};
 ghost use Rattle.question.specs.Answers.{numbers as questionNumbers};
 ghost use Rattle.search_answer.specs.Answers.{noFigures};
-ghost use Rattle.reports.specs.Reported.{reported, checkNumbers};
+ghost use Rattle.reports.specs.Reported.{reported, placed, checkNumbers};
 ghost use Rattle.reports.specs.Totals.{totalsWith, totalsOf};
 
-// An answer as C gets it: document 01's number, and two values.
+// An answer as C gets it: the documents' number, and two values.
 #[repr(C)]
 pub struct Report {
     pub number: u64,
@@ -71,14 +72,50 @@ pub fn of_walk(told: Walked) -> Report
     }
 }
 
-// The question about one state: the least cost and 1, or 0 and 0 where the state is not reached, or the refusal's number and value.
-pub fn of_question(told: Answered) -> Report
-    ensures { λ r. ⌜ reported r ≡ questionNumbers told ⌝ }
+// What a question reports: a refusal's number and value, or 0 and 0, and 1 with the state's cost and steps where it is reached.
+#[repr(C)]
+pub struct Place {
+    pub number: u64,
+    pub value: u64,
+    pub reached: u64,
+    pub cost: u64,
+    pub steps: u64,
+}
+
+// A number and a value, without a place.
+fn no_place(number: u64, value: u64) -> Place
+    ensures { λ r. ⌜ placed r ≡ (number, value, 0, 0, 0) ⌝ }
+{
+    Place {
+        number,
+        value,
+        reached: 0,
+        cost: 0,
+        steps: 0,
+    }
+}
+
+// A place.
+fn place_at(cost: u64, steps: u64) -> Place
+    ensures { λ r. ⌜ placed r ≡ (0, 0, 1, cost, steps) ⌝ }
+{
+    Place {
+        number: 0,
+        value: 0,
+        reached: 1,
+        cost,
+        steps,
+    }
+}
+
+// The question about one state: its place, or that it is not reached, or the refusal's number and value.
+pub fn of_question(told: Answered) -> Place
+    ensures { λ r. ⌜ placed r ≡ questionNumbers told ⌝ }
 {
     match told {
-        Answered::Refused { number, place } => reply(number as u64, place as u64, 0),
-        Answered::Least { cost } => reply(0, cost as u64, 1),
-        Answered::NotReached => reply(0, 0, 0),
+        Answered::Refused { number, place } => no_place(number as u64, place as u64),
+        Answered::Reached { cost, steps } => place_at(cost as u64, steps as u64),
+        Answered::NotReached => no_place(0, 0),
     }
 }
 
@@ -96,6 +133,7 @@ pub struct Totals {
     pub unused: u64,
     pub nodes: u64,
     pub entries: u64,
+    pub pairs: u64,
     pub steps: u64,
 }
 
@@ -116,6 +154,7 @@ fn totals_with(number: u64, value: u64, found: Listing) -> Totals
         unused: time.unused as u64,
         nodes: found.nodes as u64,
         entries: found.entries as u64,
+        pairs: found.pairs as u64,
         steps: found.steps as u64,
     }
 }
@@ -131,6 +170,7 @@ fn no_figures() -> Listing
         bound: 0,
         nodes: 0,
         entries: 0,
+        pairs: 0,
         steps: 0,
     }
 }

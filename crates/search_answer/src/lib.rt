@@ -6,7 +6,7 @@ ghost use Rattle.task.specs.Decode.{taskOf};
 ghost use Rattle.search_answer.specs.declared.Searched.the-variants.{Refused};
 ghost use Rattle.search_answer.specs.Search.{figuresOf};
 
-// The figures of the listing, and the number of the plan's steps.
+// The figures of the listing, the number of pairs of cost and steps that have a set, and the number of the plan's steps.
 pub struct Listing {
     pub utility: usize,
     pub ceiling: usize,
@@ -14,6 +14,7 @@ pub struct Listing {
     pub bound: usize,
     pub nodes: usize,
     pub entries: usize,
+    pub pairs: usize,
     pub steps: usize,
 }
 
@@ -31,8 +32,15 @@ pub fn refusal(number: u8) -> Searched
 }
 
 // The figures of a task file whose sets are made; there is no plan yet.
-pub fn figures(file: &[u8], utility: usize, cost: usize, nodes: usize, entries: usize) -> Listing
-    ensures { λ r. ⌜ r ≡ figuresOf (taskOf (now (file .entry))) utility cost nodes entries ⌝ }
+pub fn figures(
+    file: &[u8],
+    utility: usize,
+    cost: usize,
+    nodes: usize,
+    entries: usize,
+    pairs: usize,
+) -> Listing
+    ensures { λ r. ⌜ r ≡ figuresOf (taskOf (now (file .entry))) utility cost nodes entries pairs ⌝ }
 {
     Listing {
         utility,
@@ -41,6 +49,7 @@ pub fn figures(file: &[u8], utility: usize, cost: usize, nodes: usize, entries: 
         bound: bound(file),
         nodes,
         entries,
+        pairs,
         steps: 0,
     }
 }

@@ -26,6 +26,8 @@ fn figures(found: Listing) {
     pair(b" cost ", found.cost, b" of ", found.bound);
     time(time_of(found.cost, found.bound));
     pair(b" nodes ", found.nodes, b" ", found.entries);
+    io::write_all(1, b" pairs ");
+    io::print_decimal(1, found.pairs as u64);
 }
 
 // A step's operator.

@@ -1,4 +1,3 @@
 -- Laws that belong to no one function.
 pub mod Walking
 pub mod Short
-pub mod Writing

@@ -1,16 +1,24 @@
--- Laws of the sets made, demands 2 and 3, and document 01's starred cases.
+-- Laws of the sets made, demands 2 and 3 by cost and by pairs, and the starred stand cases.
 pub mod Table
 pub mod Connectives
 pub mod Bits
 pub mod Members
 pub mod Links
 pub mod Gather
+pub mod Empty
 pub mod Levels
 pub mod Wanted
 pub mod Optimum
 pub mod Plan
 pub mod Task
 pub mod Demands
+pub mod PairLists
+pub mod PairDemands
 pub mod Counted
 pub mod Made
+pub mod Refusals
+pub mod Gaps
 pub mod HeldSets
+pub mod Quiet
+pub mod PairSteps
+pub mod WantedSteps

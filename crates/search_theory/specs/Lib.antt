@@ -6,5 +6,6 @@ pub mod Levels
 pub mod Optimum
 pub mod Wanted
 pub mod Made
+pub mod Pairs
 pub mod Plan
 pub mod HeldSets

@@ -1,5 +1,6 @@
 // The file check, the writer, the walk, the search and the question for callers in C; include/laurelsnap.h describes them there.
 use question::question;
+use reports::Place;
 use reports::Report;
 use reports::Totals;
 use reports::of_check;
@@ -21,7 +22,7 @@ ghost use Rattle.walk.specs.Answers.{numbers as walkNumbers};
 ghost use Rattle.search_answer.specs.Lent.{lent};
 ghost use Rattle.question.specs.Question.{questionOf};
 ghost use Rattle.question.specs.Answers.{numbers as questionNumbers};
-ghost use Rattle.reports.specs.Reported.{reported, checkNumbers};
+ghost use Rattle.reports.specs.Reported.{reported, placed, checkNumbers};
 ghost use Rattle.supervisor.specs.Reports.{Reports};
 
 // The file check: 0, or the refusal's number and value.
@@ -57,7 +58,10 @@ pub extern "C" fn laurelsnap_walk(file: &[u8], plan: &[u8]) -> Report
 #[no_mangle]
 pub extern "C" fn laurelsnap_search(
     file: &[u8],
-    levels: &mut [u32],
+    costs: &mut [u32],
+    steps: &mut [u32],
+    sets: &mut [u32],
+    wanted: &mut [u32],
     bit: &mut [u32],
     low: &mut [u32],
     high: &mut [u32],
@@ -70,15 +74,18 @@ pub extern "C" fn laurelsnap_search(
     plan: &mut [u16],
 ) -> Totals
     ensures { λ r.
-        let before = lent (now (levels .entry)) (now (bit .entry)) (now (low .entry)) (now (high .entry)) (now (ubit .entry)) (now (ulow .entry)) (now (uhigh .entry))
-        (now (heads .entry)) (now (chain .entry)) (now (memo .entry)) (now (plan .entry)) in
-        let after = lent (now (levels .exit)) (now (bit .exit)) (now (low .exit)) (now (high .exit)) (now (ubit .exit)) (now (ulow .exit)) (now (uhigh .exit))
-        (now (heads .exit)) (now (chain .exit)) (now (memo .exit)) (now (plan .exit)) in
+        let before = lent (now (costs .entry)) (now (steps .entry)) (now (sets .entry)) (now (wanted .entry)) (now (bit .entry)) (now (low .entry)) (now (high .entry))
+        (now (ubit .entry)) (now (ulow .entry)) (now (uhigh .entry)) (now (heads .entry)) (now (chain .entry)) (now (memo .entry)) (now (plan .entry)) in
+        let after = lent (now (costs .exit)) (now (steps .exit)) (now (sets .exit)) (now (wanted .exit)) (now (bit .exit)) (now (low .exit)) (now (high .exit))
+        (now (ubit .exit)) (now (ulow .exit)) (now (uhigh .exit)) (now (heads .exit)) (now (chain .exit)) (now (memo .exit)) (now (plan .exit)) in
         ⌜ Reports (now (file .entry)) before after r ⌝ }
 {
     of_search(search(
         file,
-        levels,
+        costs,
+        steps,
+        sets,
+        wanted,
         bit,
         low,
         high,
@@ -92,20 +99,37 @@ pub extern "C" fn laurelsnap_search(
     ))
 }
 
-// The question about one state: on success the least cost and 1, or 0 and 0 where the state is not reached.
+// The question about one state: its place, or that it is not reached.
 #[no_mangle]
 pub extern "C" fn laurelsnap_question(
     file: &[u8],
     state: &[u8],
-    levels: &[u32],
+    costs: &[u32],
+    steps: &[u32],
+    sets: &[u32],
+    wanted: &[u32],
     bit: &[u32],
     low: &[u32],
     high: &[u32],
     count: usize,
-) -> Report
+    pairs: usize,
+) -> Place
     ensures { λ r.
-        let answer = questionOf (now (file .entry)) (now (state .entry)) (now (levels .entry)) (now (bit .entry)) (now (low .entry)) (now (high .entry)) count in
-        ⌜ reported r ≡ questionNumbers answer ⌝ }
+        let answer = questionOf (now (file .entry)) (now (state .entry))
+        (now (costs .entry)) (now (steps .entry)) (now (sets .entry)) (now (wanted .entry)) (now (bit .entry)) (now (low .entry)) (now (high .entry)) count pairs in
+        ⌜ placed r ≡ questionNumbers answer ⌝ }
 {
-    of_question(question(file, state, levels, bit, low, high, count))
+    of_question(question(
+        file,
+        state,
+        costs,
+        steps,
+        sets,
+        wanted,
+        bit,
+        low,
+        high,
+        count,
+        pairs,
+    ))
 }

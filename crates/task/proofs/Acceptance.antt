@@ -206,14 +206,12 @@ module _ (f : List ℕ) (a : accepted f ≡ true) where
     operator-right-is =
         let r = operatorRecord f o in
         let b = and-both (costRight r) _ right-operator in
-        let c = and-both _ _ (b .0) in
         let d = and-both (factCountsRight r) _ (b .1) in
         let n = and-both _ _ (d .0) in
         let g = and-both (preconditionsRight f r) _ (d .1) in
         record {
           long = record-long;
-          cheapest = leb-true _ _ (c .0);
-          dearest = leb-true _ _ (c .1);
+          dearest = leb-true _ _ (b .0);
           few-preconditions = leb-true _ _ (n .0);
           few-effects = leb-true _ _ (n .1);
           preconditions = row-is f _ _ operatorPlaces (g .0) (leb-true _ _ (n .0));

@@ -10,6 +10,7 @@ use Rattle.planning.specs.Model.{Operator, Term, operatorAt}
 use Rattle.planning.specs.Scan.{tab}
 use Rattle.planning.specs.Coding.{Valid, UsedFact, Facts}
 use Rattle.planning.specs.Good.{Terms, Good}
+use Rattle.task.specs.Limits.{mostCost}
 use Rattle.task.specs.Format.{variables, operators, terms, bound, size, startValue, factVariable}
 use Rattle.task.specs.Decode.{factAt, facts, operatorIn, termIn, sizes, taskOf}
 use Rattle.task.specs.Check.{accepted}
@@ -99,9 +100,6 @@ module _ (f : List ℕ) (a : accepted f ≡ true) where
   unfolding taskOf
   good-terms = terms-tab (sizes f) (termIn f) (terms f) 0 (λ t l u. facts-right f _ _ (sound f a .term t (omega arith) .facts))
 
-  good-costs : (o : ℕ) → o < length (taskOf f .operators) → 1 ≤ operatorAt (taskOf f .operators) o .cost
-  good-costs o h = rw (operator-at f o (below o h)) (sound f a .operator o (below o h) .cheapest)
-
   pub good : Good (taskOf f)
   good =
       record {
@@ -109,5 +107,8 @@ module _ (f : List ℕ) (a : accepted f ≡ true) where
         pres = good-preconditions;
         effs = good-effects;
         terms = good-terms;
-        costs = good-costs;
       }
+
+  -- an operator's cost is at most 4,095
+  pub cost-small : (o : ℕ) → o < operators f → operatorAt (taskOf f .operators) o .cost ≤ mostCost
+  cost-small o h = rw (operator-at f o h) (sound f a .operator o h .dearest)

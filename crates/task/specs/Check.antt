@@ -6,7 +6,7 @@ use lib.ListN.{length}
 use lib.Dec.{leb, ltb, eqb}
 use Rattle.planning.specs.Connectives.{_and_, _or_, pick}
 use Rattle.planning.specs.Coding.{bits}
-use Rattle.task.specs.Limits.{headerBytes, mostFileBytes, variableBytes, operatorBytes, termBytes, mostVariables, mostOperators, mostTerms, mostBound, leastValues, mostValues, leastCost, mostCost, operatorPlaces, termPlaces, mostBits}
+use Rattle.task.specs.Limits.{headerBytes, mostFileBytes, variableBytes, operatorBytes, termBytes, mostVariables, mostOperators, mostTerms, mostBound, leastValues, mostValues, mostCost, operatorPlaces, termPlaces, mostBits}
 use Rattle.task.specs.Bytes.{byte}
 use Rattle.planning.specs.Scan.{firstBad, every}
 use Rattle.task.specs.Format.{letters, variables, operators, terms, bound, variablesAt, operatorsAt, termsAt, fileLength, operatorRecord, termRecord, size, startValue, cost, preconditionCount, effectCount, preconditions, effects, termCount, termZero, termFacts, factVariable, factValue}
@@ -95,7 +95,7 @@ variableRight f v =
 
 -- ---- 9: an operator's record r
 unfoldable pub costRight : List ℕ → Bool
-costRight r = leb leastCost (cost r) and leb (cost r) mostCost
+costRight r = leb (cost r) mostCost
 
 unfoldable pub factCountsRight : List ℕ → Bool
 factCountsRight r = leb (preconditionCount r) operatorPlaces and leb (effectCount r) operatorPlaces

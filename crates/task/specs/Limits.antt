@@ -43,9 +43,6 @@ leastValues = 2
 abbrev pub mostValues : ℕ
 mostValues = 16
 
-abbrev pub leastCost : ℕ
-leastCost = 1
-
 abbrev pub mostCost : ℕ
 mostCost = 4095
 

@@ -4,7 +4,7 @@ use mathlib.Core.Path.{_≡_}
 use mathlib.Core.List.{List}
 use lib.ListN.{length}
 use Rattle.planning.specs.Coding.{bits}
-use Rattle.task.specs.Limits.{operatorBytes, mostVariables, mostOperators, mostTerms, mostBound, leastValues, mostValues, leastCost, mostCost, operatorPlaces, termPlaces, mostBits}
+use Rattle.task.specs.Limits.{operatorBytes, mostVariables, mostOperators, mostTerms, mostBound, leastValues, mostValues, mostCost, operatorPlaces, termPlaces, mostBits}
 use Rattle.task.specs.Format.{variables, operators, terms, bound, operatorRecord, termRecord, size, startValue, cost, preconditionCount, preconditions, effectCount, effects, termCount, termFacts, factVariable, factValue}
 use Rattle.task.specs.Decode.{sizes}
 
@@ -26,7 +26,6 @@ pub record RightRow (f fs : List ℕ) (used : ℕ) : Type 0 where
 -- r is an operator's record
 pub record RightOperator (f r : List ℕ) : Type 0 where
   pub long : length r ≡ operatorBytes
-  pub cheapest : leastCost ≤ cost r
   pub dearest : cost r ≤ mostCost
   pub few-preconditions : preconditionCount r ≤ operatorPlaces
   pub few-effects : effectCount r ≤ operatorPlaces

@@ -26,8 +26,6 @@ pub const LEAST_VALUES: usize = 2;
 
 pub const MOST_VALUES: usize = 16;
 
-pub const LEAST_COST: usize = 1;
-
 pub const MOST_COST: usize = 4095;
 
 // The places for preconditions, and for effects, of an operator, and for facts of a term.

@@ -5,7 +5,6 @@ use crate::facts::facts_right;
 use task::header::operators;
 use task::header::terms;
 use task::header::variables;
-use task::limits::LEAST_COST;
 use task::limits::LEAST_VALUES;
 use task::limits::MOST_COST;
 use task::limits::MOST_VALUES;
@@ -37,12 +36,11 @@ fn variable_right(file: &[u8], v: usize) -> bool
     LEAST_VALUES <= d && (d <= MOST_VALUES && start_value(file, v) < d)
 }
 
-// The cost is in its range.
+// The cost is at most 4,095; it may be 0.
 fn cost_right(record: &[u8]) -> bool
     ensures { λ r. ⌜ r ≡ costRight (now («record» .entry)) ⌝ }
 {
-    let c = cost(record);
-    LEAST_COST <= c && c <= MOST_COST
+    cost(record) <= MOST_COST
 }
 
 // The counts of preconditions and of effects are in their range.

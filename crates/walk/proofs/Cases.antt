@@ -16,7 +16,7 @@ use Rattle.walk.specs.declared.Walked.the-variants.{Odd, Reached}
 use Rattle.walk.specs.Walk.{stopsAt, walkFrom, walkOf}
 use Rattle.task.specs.Cases.{header, operator, fileP, fileQ, fileOf}
 
--- the file check: P and Q; 16 and 17 values; cost 0; 48 and 49 bits; no bytes
+-- the file check: P and Q; 16 and 17 values; an operator of cost 0; 48 and 49 bits; no bytes
 pub checks :
     _≡_ {A = List (ℕ × ℕ)}
     (checkOf (fileP 1)
@@ -28,7 +28,7 @@ pub checks :
     ∷ checkOf (fileOf 13 (16 ∷ 0 ∷ 16 ∷ 0 ∷ 16 ∷ 0 ∷ 16 ∷ 0 ∷ 16 ∷ 0 ∷ 16 ∷ 0 ∷ 16 ∷ 0 ∷ 16 ∷ 0 ∷ 16 ∷ 0 ∷ 16 ∷ 0 ∷ 16 ∷ 0 ∷ 16 ∷ 0 ∷ 2 ∷ 0 ∷ []))
     ∷ checkOf []
     ∷ [])
-    ((0, 0) ∷ (0, 0) ∷ (0, 0) ∷ (7, 0) ∷ (9, 0) ∷ (0, 0) ∷ (8, 0) ∷ (1, 0) ∷ [])
+    ((0, 0) ∷ (0, 0) ∷ (0, 0) ∷ (7, 0) ∷ (0, 0) ∷ (0, 0) ∷ (8, 0) ∷ (1, 0) ∷ [])
 unfolding _and_ _or_ pick firstBad every tab wide width bits byte le16 le32 part variableRecord operatorRecord termRecord effects sizes letterRight lettersRight lengthRight countsRight sectionInside apart allInside allApart headerFault namesVariable hasValue rises usedRight unusedRight factRight factsRight variableRight costRight factCountsRight preconditionsRight effectsRight operatorRecordRight operatorRight termCountsRight termFactsRight termRecordRight termRight checkOf
 checks = refl
 

@@ -2,21 +2,28 @@
 
 use reference::plan::{best, Fault};
 use reference::search::Found;
-use reference::task::{apply, holds, State};
+use reference::task::{apply, holds, Operator, State};
 use std::collections::HashMap;
 
 /// The names of the features, in the order of `features`.
-pub const NAMES: [&str; 6] = [
+pub const NAMES: [&str; 11] = [
     "many equal cost sums",
     "ties in utility",
     "effects without preconditions",
     "domains that are no powers of two",
     "plans of several steps",
     "plans of a minute or more",
+    "plans with free moves",
+    "cycles of free moves",
+    "a hundred free steps in a row",
+    "more steps at equal cost",
+    "gaps in the steps of a cost",
 ];
 
 /// So many states with several cheapest sequences are many.
 const MANY: usize = 3;
+/// So many free steps in a row are a long chain.
+const LONG: u64 = 100;
 
 /// How many states end several cheapest sequences that differ in their last step.
 fn equal_sums(found: &Found) -> usize {
@@ -30,6 +37,60 @@ fn equal_sums(found: &Found) -> usize {
         }
     }
     last_steps.values().filter(|&&n| n > 1).count()
+}
+
+/// The moves that change a state for nothing, and where they lead.
+fn free_moves<'a>(found: &'a Found, state: &'a State) -> impl Iterator<Item = State> + 'a {
+    let free = |o: &&Operator| o.cost == 0 && holds(&o.pre, state);
+    found.task.operators.iter().filter(free).map(|o| apply(&o.eff, state)).filter(move |next| next != state)
+}
+
+/// Whether free moves lead from some state around and back: taking away states that no free move leads to does not end in none.
+fn free_cycle(found: &Found) -> bool {
+    let mut leading: HashMap<State, usize> = HashMap::new();
+    for state in found.reached.keys() {
+        for next in free_moves(found, state) {
+            *leading.entry(next).or_default() += 1;
+        }
+    }
+    let mut rest: Vec<&State> = found.reached.keys().filter(|s| !leading.contains_key(*s)).collect();
+    let mut taken = 0;
+    while let Some(state) = rest.pop() {
+        taken += 1;
+        for next in free_moves(found, state) {
+            let count = leading.get_mut(&next).expect("counted above");
+            *count -= 1;
+            if *count == 0 {
+                rest.push(found.reached.get_key_value(&next).expect("free moves stay within the bound").0);
+            }
+        }
+    }
+    taken < found.reached.len()
+}
+
+/// The most free steps in a row on the first way to a state.
+fn free_row(found: &Found) -> u64 {
+    let free = |&o: &u16| found.task.operators[o as usize].cost == 0;
+    let row = |plan: &[u16]| plan.split(|o| !free(o)).map(|row| row.len()).max().unwrap_or(0);
+    found.reached.values().map(|way| row(&way.plan)).max().unwrap_or(0) as u64
+}
+
+/// Whether some state is reached again at its least cost, in more steps than the fewest.
+fn longer_ways(found: &Found) -> bool {
+    let again =
+        |next: &State, cost: u64, steps: u64| found.reached.get(next).is_some_and(|w| w.cost == cost && w.place().1 < steps);
+    found.reached.iter().any(|(state, way)| {
+        let moves = found.task.operators.iter().filter(|o| holds(&o.pre, state));
+        moves
+            .map(|o| (apply(&o.eff, state), way.cost + o.cost))
+            .any(|(next, cost)| next != *state && again(&next, cost, way.place().1 + 1))
+    })
+}
+
+/// Whether a cost has pairs with some steps, and with more steps, and none between.
+fn gap(found: &Found) -> bool {
+    let pairs: Vec<_> = found.sets.levels.keys().collect();
+    pairs.windows(2).any(|p| p[0].0 == p[1].0 && p[0].1 + 1 < p[1].1)
 }
 
 /// How many states have the best plan's utility.
@@ -53,14 +114,20 @@ pub fn features(found: &Found) -> [bool; NAMES.len()] {
         found.task.sizes.iter().any(|d| !d.is_power_of_two()),
         found.best.plan.len() > 1,
         found.time().0 > 0,
+        found.best.plan.iter().any(|&o| found.task.operators[o as usize].cost == 0),
+        free_cycle(found),
+        free_row(found) >= LONG,
+        longer_ways(found),
+        gap(found),
     ]
 }
 
 /// The faults of a planner that still hands over a runnable list, with their names.
-pub const FAULTS: [(&str, Fault); 4] = [
+pub const FAULTS: [(&str, Fault); 5] = [
     ("a state closed when generated", Fault::ClosedWhenGenerated),
     ("an old value that matters", Fault::OldValueMatters),
-    ("fewest steps", Fault::FewestSteps),
+    ("steps that do not count", Fault::StepsIgnored),
+    ("free moves that are ignored", Fault::FreeMovesIgnored),
     ("a strict bound", Fault::StrictBound),
 ];
 

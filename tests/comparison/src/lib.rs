@@ -1,16 +1,17 @@
 //! One search, question or canonical file, asked of the proved library and of the reference planner, and compared in full.
 //!
-//! A search is compared in its figures, the whole plan, the states of every level with those of the single-state search, the node
+//! A search is compared in its figures, the whole plan, the states of every pair with those of the single-state search, the node
 //! entries, and in what the lists keep. The first difference is told with both answers.
 
 pub mod features;
 
-use laurelsnap::{question, search, write, Lists, Place, Refusal};
+use laurelsnap::{question, search, write, Lists, Place, Refusal, Room};
 use reference::plan::Reached;
 use reference::question::Answer;
 use reference::random::Dice;
 use reference::search::{Found, Lengths};
 use reference::task::Task;
+use std::collections::BTreeMap;
 use std::fmt::{self, Debug, Display};
 
 /// Where the two differ, and both answers.
@@ -39,12 +40,13 @@ pub fn refusal(refusal: reference::task::Refusal) -> Refusal {
     Refusal { number: refusal.number, value: refusal.value }
 }
 
-/// Lists full of noise, of these lengths and with working lists of random ones.
-pub fn lent(dice: &mut Dice, levels: usize, nodes: usize, utility: usize, steps: usize) -> Lists {
+/// Lists full of noise, with this room and with working lists of random lengths.
+pub fn lent(dice: &mut Dice, room: Room) -> Lists {
     let mut noise = |count: usize| (0..count).map(|_| dice.number() as u32 % 300).collect::<Vec<u32>>();
-    let (levels, bit, low, high) = (noise(levels), noise(nodes), noise(nodes), noise(nodes));
-    let (utility_bit, utility_low, utility_high) = (noise(utility), noise(utility), noise(utility));
-    let plan = noise(steps).iter().map(|&x| x as u16).collect();
+    let (costs, steps, sets, wanted) = (noise(room.pairs), noise(room.pairs), noise(room.pairs), noise(room.pairs));
+    let (bit, low, high) = (noise(room.nodes), noise(room.nodes), noise(room.nodes));
+    let (utility_bit, utility_low, utility_high) = (noise(room.utility), noise(room.utility), noise(room.utility));
+    let plan = noise(room.steps).iter().map(|&x| x as u16).collect();
     let mut working = |most: &[usize]| {
         let count = dice.pick(most);
         (0..count).map(|_| dice.number() as u32).collect::<Vec<u32>>()
@@ -52,24 +54,25 @@ pub fn lent(dice: &mut Dice, levels: usize, nodes: usize, utility: usize, steps:
     let heads = working(&[0, 1, 7, 64, 1024]);
     let chain = working(&[0, 5, 100, 4096, 20_000]);
     let memo = working(&[0, 3, 4_103, 4_104, 4_110, 4_500, 16_384]);
-    Lists { levels, bit, low, high, utility_bit, utility_low, utility_high, heads, chain, memo, plan }
+    Lists { costs, steps, sets, wanted, bit, low, high, utility_bit, utility_low, utility_high, heads, chain, memo, plan }
 }
 
 fn lengths(lists: &Lists) -> Lengths {
     Lengths {
-        levels: lists.levels.len(),
+        pairs: [lists.costs.len(), lists.steps.len(), lists.sets.len(), lists.wanted.len()],
         nodes: [lists.bit.len(), lists.low.len(), lists.high.len()],
         utility: [lists.utility_bit.len(), lists.utility_low.len(), lists.utility_high.len()],
         plan: lists.plan.len(),
     }
 }
 
-/// Whether the lists still hold what a refusal keeps: everything up to 12, working lists too; levels, nodes and plan after 13; else the plan.
+/// Whether the lists still hold what a refusal keeps: everything up to 12, working lists too; pairs, nodes and plan after 13; else the plan.
 fn kept(number: u64, before: &Lists, after: &Lists) -> bool {
-    let nodes = before.levels == after.levels && before.bit == after.bit && before.low == after.low && before.high == after.high;
+    let pairs = |l: &Lists| [l.costs.clone(), l.steps.clone(), l.sets.clone(), l.wanted.clone()];
+    let nodes = before.bit == after.bit && before.low == after.low && before.high == after.high;
     match number {
         1..=12 => before == after,
-        13 => nodes && before.plan == after.plan,
+        13 => pairs(before) == pairs(after) && nodes && before.plan == after.plan,
         _ => before.plan == after.plan,
     }
 }
@@ -90,21 +93,35 @@ fn members(lists: &Lists, name: u32, k: u32, bits: u32, word: u64, out: &mut Vec
     members(lists, high, k + 1, bits, word | 1 << k, out);
 }
 
-/// Every level, state by state: the set of a cost holds the states whose cheapest sequence costs that much, and no other list of bits.
-fn compare_levels(task: &Task, reached: &Reached, lists: &Lists) -> Result<(), Difference> {
-    let mut expected: Vec<Vec<u64>> = vec![Vec::new(); task.bound as usize + 1];
+/// Every pair, state by state: its set holds the states that have this place, and no other list of bits.
+fn compare_pairs(task: &Task, reached: &Reached, lists: &Lists) -> Result<(), Difference> {
+    let mut expected: BTreeMap<(u64, u64), Vec<u64>> = BTreeMap::new();
     for (state, way) in reached {
         let word = task.state_literals(state).iter().map(|&(k, one)| (one as u64) << k).sum();
-        expected[way.cost as usize].push(word);
+        expected.entry(way.place()).or_default().push(word);
     }
-    for (g, states) in expected.iter_mut().enumerate() {
+    for (i, (place, states)) in expected.iter_mut().enumerate() {
+        same(format_args!("the place of pair {i}"), (lists.costs[i] as u64, lists.steps[i] as u64), *place)?;
         let mut held = Vec::new();
-        members(lists, lists.levels[g], 0, task.bits() as u32, 0, &mut held);
+        members(lists, lists.sets[i], 0, task.bits() as u32, 0, &mut held);
         held.sort();
         states.sort();
-        same(format_args!("the states of cost {g}"), &held, states)?;
+        same(format_args!("the states of {place:?}"), &held, states)?;
     }
     Ok(())
+}
+
+/// The lists of pairs and nodes in the reference's terms.
+fn seen(lists: &Lists) -> reference::question::Lists {
+    reference::question::Lists {
+        costs: lists.costs.clone(),
+        steps: lists.steps.clone(),
+        sets: lists.sets.clone(),
+        wanted: lists.wanted.clone(),
+        bit: lists.bit.clone(),
+        low: lists.low.clone(),
+        high: lists.high.clone(),
+    }
 }
 
 /// What success reports and leaves in the lists.
@@ -114,11 +131,15 @@ fn compare_found(found: &laurelsnap::Found, expected: &mut Found, before: &Lists
     same("time", (found.minutes, found.units, found.unused), expected.time())?;
     same("nodes and utility entries", (found.nodes, found.entries), (expected.nodes, expected.entries))?;
     same("plan", found.plan(lists), &expected.best.plan)?;
-    same("node entries", expected.test_lists(&lists.levels, &lists.bit, &lists.low, &lists.high), Ok(()))?;
-    compare_levels(&expected.task, &expected.reached, lists)?;
-    let (steps, levels, nodes) = (found.steps as usize, found.bound as usize + 1, found.nodes as usize);
+    same("pairs", found.pairs, expected.pairs() as u64)?;
+    same("node entries, sets and wanted sets", expected.test_lists(&seen(lists)), Ok(()))?;
+    compare_pairs(&expected.task, &expected.reached, lists)?;
+    let (steps, pairs, nodes) = (found.steps as usize, found.pairs as usize, found.nodes as usize);
     same("later plan entries", &lists.plan[steps..], &before.plan[steps..])?;
-    same("later levels", &lists.levels[levels..], &before.levels[levels..])?;
+    same("later costs", &lists.costs[pairs..], &before.costs[pairs..])?;
+    same("later steps", &lists.steps[pairs..], &before.steps[pairs..])?;
+    same("later sets", &lists.sets[pairs..], &before.sets[pairs..])?;
+    same("later wanted sets", &lists.wanted[pairs..], &before.wanted[pairs..])?;
     same("later bits", &lists.bit[nodes..], &before.bit[nodes..])?;
     same("later low children", &lists.low[nodes..], &before.low[nodes..])?;
     same("later high children", &lists.high[nodes..], &before.high[nodes..])
@@ -151,16 +172,15 @@ pub fn compare_search(file: &[u8], mut lists: Lists) -> Result<Result<Found, Ref
 /// The answer in the library's terms.
 fn place(answer: Answer) -> Place {
     match answer {
-        Answer::LeastCost(cost) => Place::LeastCost(cost),
+        Answer::At((cost, steps)) => Place::At { cost, steps },
         Answer::NotReached => Place::NotReached,
     }
 }
 
 /// One question, compared: the refusal's number, or 0.
-pub fn compare_question(file: &[u8], lists: &Lists, nodes: u64, state: &[u8]) -> Result<u64, Difference> {
-    let seen = reference::question::Lists { levels: &lists.levels, bit: &lists.bit, low: &lists.low, high: &lists.high };
-    let expected = reference::question::question(file, &seen, nodes, state);
-    same("question", question(file, lists, nodes, state), expected.map(place).map_err(refusal))?;
+pub fn compare_question(file: &[u8], lists: &Lists, nodes: u64, pairs: u64, state: &[u8]) -> Result<u64, Difference> {
+    let expected = reference::question::question(file, &seen(lists), nodes, pairs, state);
+    same("question", question(file, lists, nodes, pairs, state), expected.map(place).map_err(refusal))?;
     Ok(expected.map_or_else(|refusal| refusal.number, |_| 0))
 }
 

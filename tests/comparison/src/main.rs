@@ -2,31 +2,35 @@
 
 use comparison::features::{features, shown, FAULTS, NAMES};
 use comparison::{compare_search, lent};
+use laurelsnap::Room;
+use reference::plan::{best, Fault};
 use reference::random::{file, task, Dice};
 use reference::search::Found;
 use std::path::{Path, PathBuf};
 use std::process::{Command, ExitCode};
 
-const USAGE: &str =
-    "compare [--tasks N] SEED...    for each seed N generated tasks (300 if none is given), planned by the proved library
-and by a search over single states; stops at the first difference";
+const USAGE: &str = "compare [--tasks N] SEED...    for each seed N generated tasks (300 if none is given)
+compare --files FILE...        these task files
+Tasks are planned by the proved library and by a search over single states; stops at the first difference.";
 /// The tasks of a seed if no number is given; from so many on they are tested for what they should have.
 const TASKS: usize = 300;
-/// The greatest bound; the tasks' bounds go from 0 to here in turn.
+/// The greatest bound; the tasks' bounds go from 0 to here in turn, but each of so many tasks has just what its best plan costs.
 const BOUND: u64 = 40;
-/// Nodes and utility entries lent, more than a generated task needs.
-const NODES: usize = 65_536;
-const ENTRIES: usize = 2_048;
+const SPENT: usize = 8;
+/// What is lent, more than a generated task needs.
+const ROOM: Room = Room { nodes: 65_536, utility: 2_048, pairs: 4_096, steps: 4_096 };
+/// What is lent for a task file.
+const LARGE: Room = Room { nodes: 1 << 20, utility: 1 << 16, pairs: 1 << 17, steps: 1 << 17 };
 /// A feature must be in one of so many tasks.
-const RARE: usize = 10;
+const RARE: usize = 20;
 
 fn root() -> PathBuf {
     Path::new(env!("CARGO_MANIFEST_DIR")).join("../..")
 }
 
 /// One task: what both found, or where they differ.
-fn compare_task(dice: &mut Dice, bytes: &[u8]) -> Result<Found, String> {
-    let lists = lent(dice, BOUND as usize + 1, NODES, ENTRIES, BOUND as usize);
+fn compare_task(dice: &mut Dice, bytes: &[u8], room: Room) -> Result<Found, String> {
+    let lists = lent(dice, room);
     compare_search(bytes, lists).map_err(|difference| difference.to_string())?.map_err(|refusal| format!("both: {refusal}"))
 }
 
@@ -46,14 +50,18 @@ fn compare_seed(seed: u64, tasks: usize) -> Result<String, String> {
     let mut dice = Dice(seed);
     let mut counts = [0; NAMES.len()];
     let mut shows = [0; FAULTS.len()];
-    let mut states = 0;
+    let (mut states, mut pairs) = (0, 0);
     for (number, bound) in (0..tasks).zip((0..=BOUND).cycle()) {
         let mut random = task(&mut dice);
         random.bound = bound;
+        if number % SPENT == 0 {
+            random.bound = best(&random, Fault::None).cost;
+        }
         let bytes = file(&mut dice, &random);
-        let found =
-            compare_task(&mut dice, &bytes).map_err(|message| tell(&format!("seed-{seed}-task-{number}"), &bytes, &message))?;
+        let name = format!("seed-{seed}-task-{number}");
+        let found = compare_task(&mut dice, &bytes, ROOM).map_err(|message| tell(&name, &bytes, &message))?;
         states += found.reached.len();
+        pairs += found.pairs();
         counts.iter_mut().zip(features(&found)).for_each(|(count, has)| *count += has as usize);
         shows.iter_mut().zip(shown(&found)).for_each(|(count, shows)| *count += shows as usize);
     }
@@ -62,7 +70,7 @@ fn compare_seed(seed: u64, tasks: usize) -> Result<String, String> {
     };
     let had = list(NAMES.into_iter().zip(counts).collect());
     let told = list(FAULTS.map(|(name, _)| name).into_iter().zip(shows).collect());
-    let summary = format!("seed {seed}: {tasks} tasks, {states} states in their levels; {had}; would show {told}");
+    let summary = format!("seed {seed}: {tasks} tasks, {states} states in {pairs} pairs; {had}; would show {told}");
     let poor = counts.iter().any(|count| count * RARE < tasks) || shows.contains(&0);
     if poor && tasks >= TASKS {
         return Err(format!("{summary}: a feature is in less than one of {RARE} tasks, or a fault would not show"));
@@ -70,30 +78,40 @@ fn compare_seed(seed: u64, tasks: usize) -> Result<String, String> {
     Ok(summary)
 }
 
-/// The number of tasks and the seeds.
-fn arguments(words: &[String]) -> Option<(usize, Vec<u64>)> {
+/// Task files that both accept: how many there are, or the first difference.
+fn compare_files(names: &[String]) -> Result<String, String> {
+    for name in names {
+        let bytes = std::fs::read(name).map_err(|e| format!("{name}: {e}"))?;
+        compare_task(&mut Dice(1), &bytes, LARGE).map_err(|message| format!("{name}: {message}"))?;
+    }
+    Ok(format!("{} task files agree", names.len()))
+}
+
+/// What a command line asks for, each part with its summary or its first difference; nothing for a wrong one.
+fn run(words: &[String]) -> Option<Result<(), String>> {
     let (tasks, seeds) = match words {
+        [option, names @ ..] if option == "--files" => return Some(compare_files(names).map(|summary| println!("{summary}"))),
         [option, number, seeds @ ..] if option == "--tasks" => (number.parse().ok()?, seeds),
         seeds => (TASKS, seeds),
     };
     let seeds: Vec<u64> = seeds.iter().map(|word| word.parse().ok()).collect::<Option<_>>()?;
-    (tasks > 0 && !seeds.is_empty()).then_some((tasks, seeds))
+    if tasks == 0 || seeds.is_empty() {
+        return None;
+    }
+    Some(seeds.into_iter().try_for_each(|seed| compare_seed(seed, tasks).map(|summary| println!("{summary}"))))
 }
 
 fn main() -> ExitCode {
     let words: Vec<String> = std::env::args().skip(1).collect();
-    let Some((tasks, seeds)) = arguments(&words) else {
-        eprintln!("{USAGE}");
-        return ExitCode::from(2);
-    };
-    for seed in seeds {
-        match compare_seed(seed, tasks) {
-            Ok(summary) => println!("{summary}"),
-            Err(message) => {
-                println!("{message}");
-                return ExitCode::FAILURE;
-            }
+    match run(&words) {
+        None => {
+            eprintln!("{USAGE}");
+            ExitCode::from(2)
+        }
+        Some(Ok(())) => ExitCode::SUCCESS,
+        Some(Err(message)) => {
+            println!("{message}");
+            ExitCode::FAILURE
         }
     }
-    ExitCode::SUCCESS
 }

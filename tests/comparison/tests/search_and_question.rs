@@ -1,12 +1,15 @@
-//! The library's search and question against the reference: figures, plan, every level, the node entries, and what each refusal
+//! The library's search and question against the reference: figures, plan, every pair, the node entries, and what each refusal
 //! leaves as it was.
 
 use comparison::{compare_question, compare_search, lent};
-use laurelsnap::{question, search, Lists, Place, Refusal};
+use laurelsnap::{question, search, Lists, Place, Refusal, Room};
 use reference::example;
 use reference::plan::{reach, Fault};
-use reference::random::{damage, file, task, Dice};
+use reference::random::{counter_task, damage, file, task, Dice};
 use reference::search::Lengths;
+
+/// More than most generated tasks need, and no more nodes than the longest working list has links.
+const ROOM: Room = Room { nodes: 20_000, utility: 300, pairs: 2_048, steps: 2_048 };
 
 /// One search with these lists, compared in full; the refusal's number, or 0.
 fn compare(file: &[u8], lists: Lists) -> u64 {
@@ -19,10 +22,10 @@ fn compare(file: &[u8], lists: Lists) -> u64 {
 #[test]
 fn searches_agree() {
     let mut dice = Dice(21);
-    for _ in 0..4_000 {
+    for _ in 0..3_000 {
         let random = task(&mut dice);
         let whole = file(&mut dice, &random);
-        let lists = lent(&mut dice, 41, 20_000, 300, 40);
+        let lists = lent(&mut dice, ROOM);
         compare(&whole, lists);
     }
 }
@@ -30,46 +33,80 @@ fn searches_agree() {
 #[test]
 fn searches_agree_on_short_lists() {
     let mut dice = Dice(22);
-    let mut met = [0; 16];
+    let mut met = [0; 24];
     for _ in 0..6_000 {
         let random = task(&mut dice);
         let whole = file(&mut dice, &random);
         let tried = if dice.one_in(10) { damage(&mut dice, &whole) } else { whole };
-        let levels = if dice.one_in(12) { dice.below(41) } else { 41 };
-        let (nodes, utility, steps) =
-            (dice.pick(&[0, 5, 50, 300, 2_000, 20_000]), dice.pick(&[0, 3, 20, 300, 300]), dice.pick(&[0, 1, 2, 40]));
-        let mut lists = lent(&mut dice, levels, nodes, utility, steps);
-        if dice.one_in(12) {
-            lists.low.push(0);
-        }
-        if dice.one_in(12) {
-            lists.utility_high.push(0);
+        let room = Room {
+            nodes: dice.pick(&[0, 5, 50, 300, 2_000, 20_000]),
+            utility: dice.pick(&[0, 3, 20, 300, 300]),
+            pairs: dice.pick(&[0, 1, 2, 5, 20, 100, 2_048, 2_048, 2_048]),
+            steps: dice.pick(&[0, 1, 2, 40]),
+        };
+        let mut lists = lent(&mut dice, room);
+        if dice.one_in(6) {
+            let unequal =
+                [&mut lists.costs, &mut lists.steps, &mut lists.sets, &mut lists.wanted, &mut lists.low, &mut lists.utility_high];
+            unequal.into_iter().nth(dice.below(6)).expect("one of six").push(0);
         }
         met[compare(&tried, lists) as usize] += 1;
     }
-    assert!([0, 11, 12, 13, 14, 15].iter().all(|&n| met[n] > 20), "{met:?}");
+    assert!([0, 12, 13, 14, 15, 23].iter().all(|&n| met[n] > 20), "{met:?}");
 }
 
 #[test]
 fn exact_lengths_are_accepted_and_one_less_is_refused() {
     let mut dice = Dice(23);
-    for _ in 0..500 {
-        let random = task(&mut dice);
+    for turn in 0..300 {
+        let random = if turn % 20 == 0 { counter_task(&mut dice) } else { task(&mut dice) };
         let whole = file(&mut dice, &random);
-        let wide = Lengths { levels: 4096, nodes: [1 << 20; 3], utility: [1 << 20; 3], plan: 4096 };
+        let wide = Lengths { pairs: [1 << 20; 4], nodes: [1 << 20; 3], utility: [1 << 20; 3], plan: 1 << 20 };
         let found = reference::search::search(&whole, &wide).expect("long lists");
-        let (levels, steps) = (random.bound as usize + 1, found.best.plan.len());
-        let (nodes, entries) = (found.nodes as usize, found.entries as usize);
-        assert_eq!(compare(&whole, lent(&mut dice, levels, nodes, entries, steps)), 0);
-        assert_eq!(compare(&whole, lent(&mut dice, levels - 1, nodes, entries, steps)), 11);
-        assert_eq!(compare(&whole, lent(&mut dice, levels, nodes, entries - 1, steps)), 13);
-        if nodes > 0 {
-            assert_eq!(compare(&whole, lent(&mut dice, levels, nodes - 1, entries, steps)), 14);
-        }
-        if steps > 0 {
-            assert_eq!(compare(&whole, lent(&mut dice, levels, nodes, entries, steps - 1)), 15);
+        let exact = Room {
+            nodes: found.nodes as usize,
+            utility: found.entries as usize,
+            pairs: found.pairs(),
+            steps: found.best.plan.len(),
+        };
+        let mut with = |room: Room| compare(&whole, lent(&mut dice, room));
+        assert_eq!(with(exact), 0);
+        assert_eq!(with(Room { pairs: exact.pairs - 1, ..exact }), 23);
+        assert_eq!(with(Room { utility: exact.utility - 1, ..exact }), 13);
+        assert_eq!(with(Room { nodes: exact.nodes - 1, ..exact }), 14);
+        assert_eq!(with(Room { nodes: 0, pairs: 0, ..exact }), 14);
+        assert_eq!(with(Room { nodes: random.bits(), pairs: 0, ..exact }), 23);
+        if exact.steps > 0 {
+            assert_eq!(with(Room { steps: exact.steps - 1, ..exact }), 15);
         }
     }
+}
+
+/// At the pair that has no entry left 14 comes before 23: with the nodes that the pairs up to it take it is 23, with one less 14.
+#[test]
+fn nodes_before_pairs() {
+    let mut dice = Dice(26);
+    let mut both = 0;
+    for _ in 0..200 {
+        let random = task(&mut dice);
+        let whole = file(&mut dice, &random);
+        let wide = Lengths { pairs: [1 << 20; 4], nodes: [1 << 20; 3], utility: [1 << 20; 3], plan: 1 << 20 };
+        let found = reference::search::search(&whole, &wide).expect("long lists");
+        let pairs = dice.below(found.pairs());
+        let number = |nodes: usize| {
+            reference::search::search(&whole, &Lengths { pairs: [pairs; 4], nodes: [nodes; 3], ..wide })
+                .map_or_else(|r| r.number, |_| 0)
+        };
+        let (mut short, mut enough) = (0, found.nodes as usize);
+        while short + 1 < enough {
+            let middle = (short + enough) / 2;
+            *(if number(middle) == 23 { &mut enough } else { &mut short }) = middle;
+        }
+        let mut with = |nodes: usize| compare(&whole, lent(&mut dice, Room { nodes, pairs, ..ROOM }));
+        assert_eq!((with(enough), with(enough - 1)), (23, 14));
+        both += (pairs > 0) as usize;
+    }
+    assert!(both > 50, "{both}");
 }
 
 #[test]
@@ -79,19 +116,23 @@ fn questions_agree() {
     for _ in 0..2_000 {
         let random = task(&mut dice);
         let whole = file(&mut dice, &random);
-        let mut lists = lent(&mut dice, 41, 3_000, 300, 40);
+        let mut lists = lent(&mut dice, Room { nodes: 3_000, pairs: 400, ..ROOM });
         let Ok(found) = search(&whole, &mut lists) else { continue };
         for _ in 0..10 {
             let mut state: Vec<u8> = random.sizes.iter().map(|&d| dice.below(d as usize) as u8).collect();
             let mut asked = lists.clone();
-            let mut nodes = found.nodes;
+            let (mut nodes, mut pairs) = (found.nodes, found.pairs);
             match dice.below(16) {
                 0 => state.push(0),
                 1 => state[0] = random.sizes[0],
                 2 => nodes = dice.pick(&[0, nodes / 2, nodes + 1, 3_001, u64::MAX >> 16]),
-                3 => asked.levels.truncate(dice.below(41)),
+                3 => pairs = dice.pick(&[0, pairs / 2, pairs + 1, 400, 401, u64::MAX >> 16]),
                 4 => asked.high.truncate(dice.below(3_000)),
-                5..=9 => {
+                5 => {
+                    let four = [&mut asked.costs, &mut asked.steps, &mut asked.sets, &mut asked.wanted];
+                    four.into_iter().nth(dice.below(4)).expect("one of four").truncate(dice.below(400));
+                }
+                6..=9 => {
                     let at = dice.below(found.nodes as usize);
                     let other = dice.below(found.nodes as usize);
                     match dice.below(3) {
@@ -100,19 +141,22 @@ fn questions_agree() {
                         _ => asked.high.swap(at, other),
                     }
                 }
-                10 => asked.levels.swap(0, dice.below(41)),
+                10 => asked.sets.swap(0, dice.below(found.pairs as usize + 3)),
+                11 => asked.wanted.fill(u32::MAX),
+                12 => (asked.costs, asked.steps) = (asked.steps, asked.costs),
                 _ => {}
             }
-            let number = compare_question(&whole, &asked, nodes, &state).unwrap_or_else(|difference| panic!("{difference}"));
+            let number =
+                compare_question(&whole, &asked, nodes, pairs, &state).unwrap_or_else(|difference| panic!("{difference}"));
             met[number as usize] += 1;
         }
     }
-    assert!([0, 11, 12, 20, 21].iter().all(|&n| met[n] > 20), "{met:?}");
+    assert!([0, 12, 20, 21].iter().all(|&n| met[n] > 20), "{met:?}");
 }
 
 /// Every state of generated tasks, asked of the lists that a search left, against a search over single states.
 #[test]
-fn every_state_has_its_least_cost() {
+fn every_state_has_its_place() {
     let mut dice = Dice(25);
     let (mut tasks, mut reached_states) = (0, 0);
     for _ in 0..1_000 {
@@ -122,7 +166,7 @@ fn every_state_has_its_least_cost() {
             continue;
         }
         let whole = file(&mut dice, &random);
-        let mut lists = lent(&mut dice, 41, 20_000, 300, 40);
+        let mut lists = lent(&mut dice, ROOM);
         let Ok(found) = search(&whole, &mut lists) else { continue };
         let ways = reach(&random, Fault::None);
         for number in 0..states {
@@ -133,8 +177,11 @@ fn every_state_has_its_least_cost() {
                 value as u8
             };
             let state: Vec<u8> = random.sizes.iter().map(|&d| digit(d)).collect();
-            let expected = ways.get(&state).map_or(Place::NotReached, |way| Place::LeastCost(way.cost));
-            assert_eq!(question(&whole, &lists, found.nodes, &state), Ok(expected));
+            let expected = ways.get(&state).map_or(Place::NotReached, |way| {
+                let (cost, steps) = way.place();
+                Place::At { cost, steps }
+            });
+            assert_eq!(question(&whole, &lists, found.nodes, found.pairs, &state), Ok(expected));
         }
         tasks += 1;
         reached_states += ways.len();
@@ -144,20 +191,26 @@ fn every_state_has_its_least_cost() {
 
 #[test]
 fn the_worked_task() {
-    let mut lists = Lists::new(1_024, 512);
+    let mut lists = Lists::new(Room { nodes: 1_024, utility: 512, pairs: 4_096, steps: 4_096 });
     let found = search(&example("calibration"), &mut lists).expect("a plan");
     assert_eq!((found.utility, found.ceiling, found.cost, found.bound), (13, 16, 14, 14));
     assert_eq!((found.minutes, found.units, found.unused), (2, 2, 0));
-    assert_eq!((found.nodes, found.entries), (1_011, 58));
-    assert_eq!(found.plan(&lists), [1, 2, 3, 4, 5, 7, 10, 6, 9, 12, 13, 14]);
-    let start = [1, 0, 1, 0, 0, 0, 0, 0, 0, 0, 0];
-    assert_eq!(question(&example("calibration"), &lists, found.nodes, &start), Ok(Place::LeastCost(0)));
+    assert_eq!((found.nodes, found.entries, found.pairs), (1_001, 45, 19));
+    assert_eq!(found.plan(&lists), [1, 2, 3, 4, 6, 8, 11, 7, 10, 13, 5, 17, 18]);
+    let place = |state: &[u8]| question(&example("calibration"), &lists, found.nodes, found.pairs, state);
+    assert_eq!(place(&[1, 1, 0, 0, 0, 0, 0, 0, 0, 0, 0]), Ok(Place::At { cost: 0, steps: 0 }));
+    let taken = [1, 2, 1, 1, 1, 0, 1, 0, 1, 1, 0];
+    let closed = [1, 2, 0, 1, 1, 0, 1, 0, 1, 1, 0];
+    assert_eq!(place(&taken), Ok(Place::At { cost: 12, steps: 10 }));
+    assert_eq!(place(&closed), Ok(Place::At { cost: 12, steps: 11 }));
 }
 
 #[test]
 fn lists_that_are_too_long() {
-    for (nodes, utility) in [(1_048_577, 16), (16, 1_048_577)] {
-        let mut lists = Lists::new(nodes, utility);
-        assert_eq!(search(&example("p-1"), &mut lists), Err(Refusal { number: 12, value: 0 }));
+    let room = Room { nodes: 16, utility: 16, pairs: 16, steps: 16 };
+    let rooms = [Room { nodes: 1_048_577, ..room }, Room { utility: 1_048_577, ..room }, Room { pairs: 1_048_577, ..room }];
+    for room in rooms {
+        assert_eq!(search(&example("p-1"), &mut Lists::new(room)), Err(Refusal { number: 12, value: 0 }));
     }
+    assert_eq!(search(&example("p-1"), &mut Lists::new(Room { pairs: 1_048_576, ..room })).map(|found| found.pairs), Ok(2));
 }

@@ -2,7 +2,7 @@
 //! are too short, exact and longer; and that two files are written alike exactly if they carry one task.
 
 use comparison::{compare_write, refusal};
-use laurelsnap::{canonical, check, search, walk_bytes, write, Lists, Refusal};
+use laurelsnap::{canonical, check, search, walk_bytes, write, Lists, Refusal, Room};
 use reference::example;
 use reference::random::{any_task, damage, file, large_task, plan, task, Dice};
 use reference::task::{encode, number, Task, FILE_MOST, HEADER, OPERATOR_BYTES, TERM_BYTES, VARIABLE_BYTES};
@@ -67,7 +67,7 @@ fn kinds(file: &[u8], task: &Task) -> [bool; KINDS.len()] {
 fn accepted_files_agree() {
     let mut dice = Dice(31);
     let mut met = [0; KINDS.len()];
-    for _ in 0..10_000 {
+    for _ in 0..12_000 {
         let random = any_task(&mut dice);
         let whole = file(&mut dice, &random);
         let written = encode(&random).len();
@@ -117,7 +117,7 @@ fn refused_files_agree() {
 #[test]
 fn the_canonical_file_reads_back_as_the_task() {
     let mut dice = Dice(33);
-    for _ in 0..10_000 {
+    for _ in 0..12_000 {
         let random = any_task(&mut dice);
         let whole = file(&mut dice, &random);
         let written = canonical(&whole).expect("a task");
@@ -140,7 +140,7 @@ fn the_canonical_file_has_the_same_best_plan() {
         let whole = file(&mut dice, &random);
         let written = canonical(&whole).expect("a task");
         let [(found, plan), again] = [whole, written].map(|bytes| {
-            let mut lists = Lists::new(2_000, 500);
+            let mut lists = Lists::new(Room { nodes: 2_000, utility: 500, pairs: 2_048, steps: 2_048 });
             (search(&bytes, &mut lists), lists.plan)
         });
         plans += found.is_ok_and(|found| found.steps > 0) as usize;

@@ -132,16 +132,32 @@ impl Diagrams {
         )
     }
 
-    /// The names of the different inner nodes in the diagrams of these sets.
-    pub fn nodes_of(&self, sets: &[u32]) -> HashSet<u32> {
-        let mut seen = HashSet::new();
-        let mut rest: Vec<u32> = sets.to_vec();
+    /// Adds the names of the inner nodes in a set's diagram.
+    pub fn note_nodes(&self, set: u32, seen: &mut HashSet<u32>) {
+        let mut rest = vec![set];
         while let Some(name) = rest.pop() {
             if name >= 2 && seen.insert(name) {
-                rest.push(self.node(name).low);
-                rest.push(self.node(name).high);
+                rest.extend([self.node(name).low, self.node(name).high]);
             }
         }
-        seen
+    }
+
+    /// The number of patterns of so many bits in a set.
+    pub fn members(&self, set: u32, bits: u32) -> u64 {
+        let mut known = HashMap::from([(EMPTY, 0), (FULL, 1)]);
+        let count = self.members_below(set, bits, &mut known);
+        count << self.top(set).min(bits)
+    }
+
+    /// The number of patterns of the bits from the set's top bit on.
+    fn members_below(&self, set: u32, bits: u32, known: &mut HashMap<u32, u64>) -> u64 {
+        if let Some(&count) = known.get(&set) {
+            return count;
+        }
+        let node = self.node(set);
+        let mut part = |child: u32| self.members_below(child, bits, known) << (self.top(child).min(bits) - node.bit - 1);
+        let count = part(node.low) + part(node.high);
+        known.insert(set, count);
+        count
     }
 }

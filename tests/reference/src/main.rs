@@ -1,14 +1,15 @@
 //! The reference planner as a program: listings to compare with osp-list's, the listings of faulty planners, canonical and random files.
 
-use reference::plan::{best, Fault};
+use reference::plan::{best, Fault, Place};
 use reference::random::{file, task, Dice};
-use reference::search::{search, Lengths, OSP_LIST};
+use reference::search::{search, Found, Lengths, OSP_LIST};
 use reference::{task as bpt, walk::walk, write::canonical};
 use std::io::Write;
 use std::process::ExitCode;
 
-const USAGE: &str = "reference plan FILE [ENTRIES]    the listing, with osp-list's lists or so many node and utility entries
-reference faults FILE            the best plan, and what the planners with the four named faults hand over
+const USAGE: &str = "reference plan FILE [ENTRIES]    the listing, with osp-list's lists or so many entries in each list
+reference pairs FILE [ENTRIES]   a line for each pair: cost, steps, states in its set and in its wanted set (- past the target)
+reference faults FILE            the best plan, and what planners with the named faults hand over
 reference walk FILE OPERATOR...  cost and utility of a plan, or its refusal
 reference write FILE             the canonical file on standard output
 reference random SEED            a random task file on standard output";
@@ -17,18 +18,27 @@ fn read(name: &str) -> Result<Vec<u8>, String> {
     std::fs::read(name).map_err(|e| format!("{name}: {e}"))
 }
 
-fn plan(name: &str, entries: Option<&String>) -> Result<String, String> {
+/// What is shown of a search with osp-list's lists, or with so many entries in every list.
+fn searched(name: &str, entries: Option<&String>, show: fn(&Found) -> String) -> Result<String, String> {
     let lengths = match entries {
         None => OSP_LIST,
         Some(word) => {
             let n = word.parse().map_err(|_| format!("'{word}' is no number"))?;
-            Lengths { nodes: [n; 3], utility: [n; 3], ..OSP_LIST }
+            Lengths { pairs: [n; 4], nodes: [n; 3], utility: [n; 3], plan: n }
         }
     };
     Ok(match search(&read(name)?, &lengths) {
-        Ok(found) => found.listing(),
+        Ok(found) => show(&found),
         Err(r) => format!("refused {} {}\n", r.number, r.value),
     })
+}
+
+/// A line for each pair.
+fn pairs(found: &Found) -> String {
+    let line = |((cost, steps), states, wanted): (Place, u64, Option<u64>)| {
+        format!("{cost} {steps} {states} {}\n", wanted.map_or("-".to_string(), |n| n.to_string()))
+    };
+    found.sizes().into_iter().map(line).collect()
 }
 
 /// A refusal where the command has nothing to print.
@@ -43,7 +53,8 @@ fn faults(name: &str) -> Result<String, String> {
         ("closed when generated", Fault::ClosedWhenGenerated),
         ("old value matters", Fault::OldValueMatters),
         ("start value matters", Fault::StartValueMatters),
-        ("fewest steps", Fault::FewestSteps),
+        ("steps ignored", Fault::StepsIgnored),
+        ("free moves ignored", Fault::FreeMovesIgnored),
         ("strict bound", Fault::StrictBound),
     ];
     let mut out = String::new();
@@ -67,8 +78,8 @@ fn walked(name: &str, steps: &[String]) -> Result<String, String> {
 
 fn run(words: &[String]) -> Result<Vec<u8>, String> {
     match words {
-        [c, name] if c == "plan" => plan(name, None).map(String::into_bytes),
-        [c, name, n] if c == "plan" => plan(name, Some(n)).map(String::into_bytes),
+        [c, name, n @ ..] if c == "plan" && n.len() < 2 => searched(name, n.first(), Found::listing).map(String::into_bytes),
+        [c, name, n @ ..] if c == "pairs" && n.len() < 2 => searched(name, n.first(), pairs).map(String::into_bytes),
         [c, name] if c == "faults" => faults(name).map(String::into_bytes),
         [c, name, steps @ ..] if c == "walk" => walked(name, steps).map(String::into_bytes),
         [c, name] if c == "write" => canonical(&read(name)?).map_err(told),

@@ -1,6 +1,6 @@
 //! Random tasks, files, plans and damage, from a seed.
 
-use crate::task::{apply, header, holds, sections, Fact, Operator, State, Task, Term, COST_MOST, HEADER};
+use crate::task::{apply, header, holds, sections, Fact, Operator, State, Task, Term, COST_MOST, HEADER, TERM_FACTS};
 
 /// Random numbers (splitmix64).
 #[derive(Clone, Debug)]
@@ -88,9 +88,63 @@ fn joined(first: &Operator, second: &Operator) -> Option<Operator> {
     Some(Operator { cost: (first.cost + second.cost).min(COST_MOST), pre, eff })
 }
 
-/// A valid task with at most some thousand states: ties in utility, equal cost sums, effects without preconditions, domains
-/// that are no powers of two, bounds 0 to 40.
+/// The digits of a counter: the values of each, and how many there are.
+const COUNTERS: [(u8, usize); 6] = [(2, 7), (3, 5), (4, 4), (5, 3), (7, 3), (16, 2)];
+
+/// The moves of a counter from each number to the next, all free but those of the first digit.
+fn counter_moves(dice: &mut Dice, size: u8, digits: usize) -> Vec<Operator> {
+    let dear = dice.pick(&[0, 0, 0, 0, 1, 2]);
+    let facts = |j: usize, value: u8, rest: u8| {
+        (j..digits).map(|v| Fact { var: v as u8, val: if v == j { value } else { rest } }).collect::<Vec<Fact>>()
+    };
+    let step =
+        |j: usize, x: u8| Operator { cost: if j == 0 { dear } else { 0 }, pre: facts(j, x, size - 1), eff: facts(j, x + 1, 0) };
+    (0..digits).flat_map(|j| (0..size - 1).map(move |x| step(j, x))).collect()
+}
+
+/// A task with a counter of more than a hundred numbers and a lamp that can be lit at some of them, for something or for nothing. Now
+/// and then the counter starts again after its last number, goes on only while the lamp is out, and has moves of two numbers at once.
+pub fn counter_task(dice: &mut Dice) -> Task {
+    let (size, digits) = dice.pick(&COUNTERS);
+    let lamp = digits as u8;
+    let sizes = [vec![size; digits], vec![3]].concat();
+    let number = |dice: &mut Dice| -> State { (0..digits).map(|_| dice.below(size as usize) as u8).collect() };
+    let mut operators = counter_moves(dice, size, digits);
+    let count = operators.len();
+    let joins: Vec<Operator> =
+        (0..8 * count).filter_map(|_| joined(&operators[dice.below(count)], &operators[dice.below(count)])).collect();
+    operators.extend(joins.into_iter().take(dice.pick(&[0, 1, 3])));
+    if dice.one_in(2) {
+        let all = |val: u8| (0..lamp).map(|var| Fact { var, val }).collect();
+        operators.push(Operator { cost: 0, pre: all(size - 1), eff: all(0) });
+    }
+    if dice.one_in(2) {
+        operators.iter_mut().for_each(|o| o.pre.push(Fact { var: lamp, val: 0 }));
+    }
+    for _ in 0..dice.between(2, 5) {
+        let (at, asked) = (number(dice), dice.between(1, digits));
+        let mut pre = facts_of(dice, &sizes[..digits], asked, &at);
+        pre.push(Fact { var: lamp, val: 0 });
+        let eff = vec![Fact { var: lamp, val: dice.between(1, 2) as u8 }];
+        operators.push(Operator { cost: dice.pick(&[0, 1, 2, 3, 5]), pre, eff });
+    }
+    for k in 1..operators.len() {
+        operators.swap(k, dice.between(0, k));
+    }
+    let mut terms = vec![Term { weight: dice.pick(&[0, 3, 9]), facts: vec![Fact { var: lamp, val: 1 }] }];
+    for _ in 0..dice.between(0, 3) {
+        let (at, asked) = (number(dice), dice.between(1, digits.min(TERM_FACTS)));
+        terms.push(Term { weight: dice.pick(&[1, 2, 9]), facts: facts_of(dice, &sizes[..digits], asked, &at) });
+    }
+    Task { start: vec![0; sizes.len()], sizes, operators, terms, bound: dice.between(0, 12) as u64 }
+}
+
+/// A valid task with at most some thousand states: ties in utility, equal cost sums, moves that cost nothing, effects without
+/// preconditions, domains that are no powers of two, bounds 0 to 40.
 pub fn task(dice: &mut Dice) -> Task {
+    if dice.one_in(5) {
+        return counter_task(dice);
+    }
     let mut sizes: Vec<u8> = Vec::new();
     let states = dice.pick(&[8, 128, 512, 2000, 2000]);
     for _ in 0..dice.between(2, 9) {
@@ -103,8 +157,10 @@ pub fn task(dice: &mut Dice) -> Task {
         sizes.push(2);
     }
     let start: State = sizes.iter().map(|&d| dice.below(d as usize) as u8).collect();
-    let costs: &[u64] =
+    let positive: &[u64] =
         dice.pick(&[&[1][..], &[1, 2], &[1, 2, 3], &[2, 3, 4, 5], &[1, 5, 7, 4095], &[3, 6], &[4, 6, 10], &[7, 8, 15]]);
+    let free: &[u64] = dice.pick(&[&[0][..], &[0, 1], &[0, 0, 1], &[0, 0, 0, 2, 5], &[0, 1, 2, 3], &[0, 0, 3, 4095]]);
+    let costs = if dice.one_in(3) { free } else { positive };
     let weights: &[u64] = dice.pick(&[&[1][..], &[1, 2], &[0, 1, 2, 3], &[5, 10, 65_535]]);
     let mut met = vec![start.clone()];
     let count = if dice.one_in(8) { dice.below(4) } else { dice.between(6, 20) };
@@ -141,7 +197,7 @@ pub fn large_task(dice: &mut Dice) -> Task {
     for _ in 0..dice.pick(&[0, 3, 20, 256]) {
         let (pre, eff) = (dice.below(9), dice.below(9));
         let pre = facts(dice, &sizes, pre);
-        operators.push(Operator { cost: dice.between(1, 4095) as u64, pre, eff: facts(dice, &sizes, eff) });
+        operators.push(Operator { cost: dice.between(0, 4095) as u64, pre, eff: facts(dice, &sizes, eff) });
     }
     let mut terms = Vec::new();
     for _ in 0..dice.pick(&[0, 3, 20, 256]) {

@@ -135,7 +135,7 @@ fn facts(sizes: &[u8], part: &[u8], used: usize, places: usize) -> Option<Vec<Fa
 
 fn operator(sizes: &[u8], record: &[u8]) -> Option<Operator> {
     let cost = number(record, 0, 2) as u64;
-    if cost == 0 || cost > COST_MOST {
+    if cost > COST_MOST {
         return None;
     }
     let pre = facts(sizes, &record[4..20], record[2] as usize, OPERATOR_FACTS)?;

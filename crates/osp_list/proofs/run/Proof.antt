@@ -40,19 +40,28 @@ slice-aggregate-search-10 c = search needs
 slice-aggregate-search-11 : tie.Need-slice-aggregate-search-11
 slice-aggregate-search-11 c = search needs
 
+slice-aggregate-search-12 : tie.Need-slice-aggregate-search-12
+slice-aggregate-search-12 c = search needs
+
+slice-aggregate-search-13 : tie.Need-slice-aggregate-search-13
+slice-aggregate-search-13 c = search needs
+
+slice-aggregate-search-14 : tie.Need-slice-aggregate-search-14
+slice-aggregate-search-14 c = search needs
+
 search-requires : tie.Need-search-requires
 search-requires c κs = tt
 
 -- the call of the search
 abbrev called : tie.After-plan3 → tie.After-search
-called c = c .before .before .before .before .before .before .before .before .before .before .before .before
+called c = c .before .before .before .before .before .before .before .before .before .before .before .before .before .before .before
 
 slice-aggregate-print-answer : tie.Need-slice-aggregate-print-answer
-slice-aggregate-print-answer c = slice-aggregate-search-11 (called c .before) ∙ sym (called c .search .kept .1 .1 .1 .1 .1 .1 .1 .1 .1 .1 .1 .0)
+slice-aggregate-print-answer c = slice-aggregate-search-14 (called c .before) ∙ sym (called c .search .kept .1 .1 .1 .1 .1 .1 .1 .1 .1 .1 .1 .1 .1 .1 .0)
 
 print-answer-requires : tie.Need-print-answer-requires
 print-answer-requires c κs =
-    let e = called c .search .kept .1 .1 .1 .1 .1 .1 .1 .1 .1 .1 .1 .0 in
+    let e = called c .search .kept .1 .1 .1 .1 .1 .1 .1 .1 .1 .1 .1 .1 .1 .1 .0 in
     (fits _ _ _ _ _ (called c .search .ensures) (sym e), simp e (simp length-replicate (omega arith)))
 
 returns : tie.Need-returns
@@ -73,6 +82,9 @@ run-spec =
     slice-aggregate-search-9
     slice-aggregate-search-10
     slice-aggregate-search-11
+    slice-aggregate-search-12
+    slice-aggregate-search-13
+    slice-aggregate-search-14
     search-requires
     slice-aggregate-print-answer
     print-answer-requires

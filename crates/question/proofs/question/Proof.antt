@@ -14,7 +14,7 @@ enum-known-number c = search needs
 returns : tie.Need-returns
 returns c =
     let told = told-refused _ _ (c .before .before .before .check .ensures) _ _ (c .before .number .given .1) in
-    file-refused _ _ _ _ _ _ _ _ _ (told .0) (told .1)
+    file-refused _ _ _ _ _ _ _ _ _ _ _ _ _ (told .0) (told .1)
 
 enum-told : tie.Need-enum-told
 enum-told c = search needs
@@ -23,7 +23,7 @@ ask-requires : tie.Need-ask-requires
 ask-requires c κs = told-accepted _ _ (c .before .before .check .ensures) (c .enum-told .given .1)
 
 returns-2 : tie.Need-returns-2
-returns-2 c = asked-is _ _ _ _ _ _ _ _ (told-accepted _ _ (c .before .before .before .check .ensures) (c .before .enum-told .given .1)) (c .ask .ensures)
+returns-2 c = asked-is _ _ _ _ _ _ _ _ _ _ _ _ (told-accepted _ _ (c .before .before .before .check .ensures) (c .before .enum-told .given .1)) (c .ask .ensures)
 
 pub question-spec : {M : Type 1} → statement M
 question-spec =

@@ -5,80 +5,44 @@ use lib.Seq.{length-take-le}
 use Rattle.search_cases.proofs.searched.Statement.{statement}
 use Rattle.search_cases.proofs.searched.Tie as tie
 
-cast-for-levels : tie.Need-cast-for-levels
-cast-for-levels c = search needs
+cast-for-costs : tie.Need-cast-for-costs
+cast-for-costs c = search needs
 
-cast-for-bit : tie.Need-cast-for-bit
-cast-for-bit c = search needs
+cast-for-steps : tie.Need-cast-for-steps
+cast-for-steps c = search needs
 
-cast-for-low : tie.Need-cast-for-low
-cast-for-low c = search needs
+cast-for-sets : tie.Need-cast-for-sets
+cast-for-sets c = search needs
 
-cast-for-high : tie.Need-cast-for-high
-cast-for-high c = search needs
+cast-for-wanted : tie.Need-cast-for-wanted
+cast-for-wanted c = search needs
 
-cast-for-ubit : tie.Need-cast-for-ubit
-cast-for-ubit c = search needs
+array-borrow-prefix-costs : tie.Need-array-borrow-prefix-costs
+array-borrow-prefix-costs c = search needs
 
-cast-for-ulow : tie.Need-cast-for-ulow
-cast-for-ulow c = search needs
+slice-aggregate-with-pairs : tie.Need-slice-aggregate-with-pairs
+slice-aggregate-with-pairs c = sym (length-take-le _ _ (array-borrow-prefix-costs (c .before)))
 
-cast-for-uhigh : tie.Need-cast-for-uhigh
-cast-for-uhigh c = search needs
+array-borrow-prefix-steps : tie.Need-array-borrow-prefix-steps
+array-borrow-prefix-steps c = search needs
 
-cast-for-plan : tie.Need-cast-for-plan
-cast-for-plan c = search needs
+slice-aggregate-with-pairs-2 : tie.Need-slice-aggregate-with-pairs-2
+slice-aggregate-with-pairs-2 c = sym (length-take-le _ _ (array-borrow-prefix-steps (c .before)))
 
-array-borrow-prefix-levels : tie.Need-array-borrow-prefix-levels
-array-borrow-prefix-levels c = search needs
+array-borrow-prefix-sets : tie.Need-array-borrow-prefix-sets
+array-borrow-prefix-sets c = search needs
 
-slice-aggregate-search-in : tie.Need-slice-aggregate-search-in
-slice-aggregate-search-in c = sym (length-take-le _ _ (array-borrow-prefix-levels (c .before)))
+slice-aggregate-with-pairs-3 : tie.Need-slice-aggregate-with-pairs-3
+slice-aggregate-with-pairs-3 c = sym (length-take-le _ _ (array-borrow-prefix-sets (c .before)))
 
-array-borrow-prefix-bit : tie.Need-array-borrow-prefix-bit
-array-borrow-prefix-bit c = search needs
+array-borrow-prefix-wanted : tie.Need-array-borrow-prefix-wanted
+array-borrow-prefix-wanted c = search needs
 
-slice-aggregate-search-in-2 : tie.Need-slice-aggregate-search-in-2
-slice-aggregate-search-in-2 c = sym (length-take-le _ _ (array-borrow-prefix-bit (c .before)))
+slice-aggregate-with-pairs-4 : tie.Need-slice-aggregate-with-pairs-4
+slice-aggregate-with-pairs-4 c = sym (length-take-le _ _ (array-borrow-prefix-wanted (c .before)))
 
-array-borrow-prefix-low : tie.Need-array-borrow-prefix-low
-array-borrow-prefix-low c = search needs
-
-slice-aggregate-search-in-3 : tie.Need-slice-aggregate-search-in-3
-slice-aggregate-search-in-3 c = sym (length-take-le _ _ (array-borrow-prefix-low (c .before)))
-
-array-borrow-prefix-high : tie.Need-array-borrow-prefix-high
-array-borrow-prefix-high c = search needs
-
-slice-aggregate-search-in-4 : tie.Need-slice-aggregate-search-in-4
-slice-aggregate-search-in-4 c = sym (length-take-le _ _ (array-borrow-prefix-high (c .before)))
-
-array-borrow-prefix-ubit : tie.Need-array-borrow-prefix-ubit
-array-borrow-prefix-ubit c = search needs
-
-slice-aggregate-search-in-5 : tie.Need-slice-aggregate-search-in-5
-slice-aggregate-search-in-5 c = sym (length-take-le _ _ (array-borrow-prefix-ubit (c .before)))
-
-array-borrow-prefix-ulow : tie.Need-array-borrow-prefix-ulow
-array-borrow-prefix-ulow c = search needs
-
-slice-aggregate-search-in-6 : tie.Need-slice-aggregate-search-in-6
-slice-aggregate-search-in-6 c = sym (length-take-le _ _ (array-borrow-prefix-ulow (c .before)))
-
-array-borrow-prefix-uhigh : tie.Need-array-borrow-prefix-uhigh
-array-borrow-prefix-uhigh c = search needs
-
-slice-aggregate-search-in-7 : tie.Need-slice-aggregate-search-in-7
-slice-aggregate-search-in-7 c = sym (length-take-le _ _ (array-borrow-prefix-uhigh (c .before)))
-
-array-borrow-prefix-plan : tie.Need-array-borrow-prefix-plan
-array-borrow-prefix-plan c = search needs
-
-slice-aggregate-search-in-8 : tie.Need-slice-aggregate-search-in-8
-slice-aggregate-search-in-8 c = sym (length-take-le _ _ (array-borrow-prefix-plan (c .before)))
-
-search-in-requires : tie.Need-search-in-requires
-search-in-requires c κs = search needs
+with-pairs-requires : tie.Need-with-pairs-requires
+with-pairs-requires c κs = search needs
 
 returns : tie.Need-returns
 returns c = search needs
@@ -87,29 +51,17 @@ pub searched-spec : {M : Type 1} → statement M
 searched-spec =
     tie.close
     (tie.spec
-    cast-for-levels
-    cast-for-bit
-    cast-for-low
-    cast-for-high
-    cast-for-ubit
-    cast-for-ulow
-    cast-for-uhigh
-    cast-for-plan
-    array-borrow-prefix-levels
-    slice-aggregate-search-in
-    array-borrow-prefix-bit
-    slice-aggregate-search-in-2
-    array-borrow-prefix-low
-    slice-aggregate-search-in-3
-    array-borrow-prefix-high
-    slice-aggregate-search-in-4
-    array-borrow-prefix-ubit
-    slice-aggregate-search-in-5
-    array-borrow-prefix-ulow
-    slice-aggregate-search-in-6
-    array-borrow-prefix-uhigh
-    slice-aggregate-search-in-7
-    array-borrow-prefix-plan
-    slice-aggregate-search-in-8
-    search-in-requires
+    cast-for-costs
+    cast-for-steps
+    cast-for-sets
+    cast-for-wanted
+    array-borrow-prefix-costs
+    slice-aggregate-with-pairs
+    array-borrow-prefix-steps
+    slice-aggregate-with-pairs-2
+    array-borrow-prefix-sets
+    slice-aggregate-with-pairs-3
+    array-borrow-prefix-wanted
+    slice-aggregate-with-pairs-4
+    with-pairs-requires
     returns)

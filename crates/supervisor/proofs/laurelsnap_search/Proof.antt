@@ -12,7 +12,7 @@ of-search-requires c κs = search needs
 
 -- the call of the search
 abbrev searched : tie.After-of-search → tie.After-search
-searched c = c .before .before .before .before .before .before .before .before .before .before .before .before .before .before .before .before .before .before .before .before .before .before .before
+searched c = c .before .before .before .before .before .before .before .before .before .before .before .before .before .before .before .before .before .before .before .before .before .before .before .before .before .before .before .before .before
 
 same-length : tie.Need-same-length
 same-length c = searched c .search .kept .1 .0
@@ -47,6 +47,15 @@ same-length-10 c = searched c .search .kept .1 .1 .1 .1 .1 .1 .1 .1 .1 .1 .0
 same-length-11 : tie.Need-same-length-11
 same-length-11 c = searched c .search .kept .1 .1 .1 .1 .1 .1 .1 .1 .1 .1 .1 .0
 
+same-length-12 : tie.Need-same-length-12
+same-length-12 c = searched c .search .kept .1 .1 .1 .1 .1 .1 .1 .1 .1 .1 .1 .1 .0
+
+same-length-13 : tie.Need-same-length-13
+same-length-13 c = searched c .search .kept .1 .1 .1 .1 .1 .1 .1 .1 .1 .1 .1 .1 .1 .0
+
+same-length-14 : tie.Need-same-length-14
+same-length-14 c = searched c .search .kept .1 .1 .1 .1 .1 .1 .1 .1 .1 .1 .1 .1 .1 .1 .0
+
 returns : tie.Need-returns
 returns c = search-is _ _ _ _ _ (searched c .search .ensures) (c .of-search .ensures)
 
@@ -67,4 +76,7 @@ laurelsnap-search-spec =
     same-length-9
     same-length-10
     same-length-11
+    same-length-12
+    same-length-13
+    same-length-14
     returns)

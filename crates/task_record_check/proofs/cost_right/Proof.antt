@@ -11,9 +11,5 @@ returns : tie.Need-returns
 unfolding costRight
 returns c = search tests
 
-returns-2 : tie.Need-returns-2
-unfolding costRight
-returns-2 c = search tests
-
 pub cost-right-spec : {M : Type 1} → statement M
-cost-right-spec = tie.close (tie.spec cost-requires returns returns-2)
+cost-right-spec = tie.close (tie.spec cost-requires returns)
