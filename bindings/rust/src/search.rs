@@ -35,9 +35,9 @@ pub struct Room {
     pub steps: usize,
 }
 
-/// Words of the memo's header, and for each node entry.
-const MEMO_HEADER: usize = 4_100;
-const MEMO_WORDS: usize = 4;
+/// Words of the memo's two headers, and for each node entry.
+const MEMO_HEADER: usize = 12_312;
+const MEMO_WORDS: usize = 6;
 
 impl Lists {
     /// Lists with this room and working lists to match, as laurelsnap_share makes them in C.

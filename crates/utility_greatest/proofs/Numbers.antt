@@ -164,11 +164,11 @@ module _ {s x : Table} {u : ℕ} {stack : List Waiting} {depth r : ℕ} (k : Up 
 
     module _ (ne : w .lo ≡ 4294967295 → ⊥) where
       -- both sides are there: the larger is the frame's number
-      pub up-number : (r′ : ℕ) → r′ ≡ max (w .lo) r → r′ ≡ mostT (tree s (w .a)) (tree x (w .b))
-      up-number r′ e = e ∙ waiting .0 .second ne
+      pub up-number : (r′ : ℕ) → r′ ≡ max (w .lo) r → MostOf s x (w .a) (w .b) r′
+      up-number r′ e = record { below = waiting .0 .names .a-below; is = e ∙ waiting .0 .second ne }
 
       pub up-larger : (r′ : ℕ) → r′ ≡ max (w .lo) r → Up s x u stack (depth - 1) r′
-      up-larger r′ e = record { waits = rw (up-number r′ e) (waiting .1); size = k .size; deep = omega (arith, k .deep) }
+      up-larger r′ e = record { waits = rw (up-number r′ e .is) (waiting .1); size = k .size; deep = omega (arith, k .deep) }
 
       pub less-larger : upLeft stack (depth - 1) < upLeft stack depth
       unfolding costs
@@ -179,8 +179,8 @@ abbrev pub Right : Table → ℕ → Table → List ℕ → Type 0
 Right x stamp s memo = Stamped s memo stamp (MostOf s x)
 
 -- a number is put into the memo
-pub kept-ready : (s x : Table) (stamp n : ℕ) (memo : List ℕ) → Ready (Right x stamp) n s memo → (memo′ : List ℕ) (a d r : ℕ) → r ≡ mostT (tree s a) (tree x d) → Keeps memo memo′ stamp a d r → Ready (Right x stamp) n s memo′
-kept-ready s x stamp n memo rd memo′ a d r e kp = record { right = stamped-remember s memo stamp (MostOf s x) memo′ a d r (rd .right) (record { is = e }) kp; size = rd .size ∙ sym (keeps-size memo memo′ stamp a d r kp) }
+pub kept-ready : (s x : Table) (stamp n : ℕ) (memo : List ℕ) → Ready (Right x stamp) n s memo → (memo′ : List ℕ) (a d r : ℕ) → MostOf s x a d r → Keeps memo memo′ stamp a d r → Ready (Right x stamp) n s memo′
+kept-ready s x stamp n memo rd memo′ a d r q kp = record { right = stamped-remember s memo stamp (MostOf s x) memo′ a d r (rd .right) q kp; size = rd .size ∙ sym (keeps-size memo memo′ stamp a d r kp) }
 
 -- the same with the memo and its length
 pub record Going (s x : Table) (stamp n : ℕ) (memo₀ memo : List ℕ) (u : ℕ) (stack : List Waiting) (depth a d : ℕ) : Type 0 where

@@ -1,9 +1,8 @@
 -- `utility_greatest::greatest` meets its contract. Assumes nothing.
 use borrow.Author.Needs.{needs}
 use denote.Ref.{now}
-use Rattle.diagrams.proofs.Memos.{stamp-fresh}
 use Rattle.utility.specs.Reading.{nodes}
-use Rattle.utility_greatest.specs.Greatest.{MostOf}
+use Rattle.utility_greatest.proofs.Growing.{most-begins}
 use Rattle.utility_greatest.proofs.greatest.Statement.{statement}
 use Rattle.utility_greatest.proofs.greatest.Tie as tie
 
@@ -16,7 +15,7 @@ most-requires c κs =
     let k = c .before .before .before in
     let sets = nodes (now (a .args .bit)) (now (a .args .low)) (now (a .args .high)) (a .args .count) in
     let values = nodes (now (a .args .ubit)) (now (a .args .ulow)) (now (a .args .uhigh)) (a .args .ucount) in
-    (a .pre .0, (a .pre .1 .0, stamp-fresh sets (now (a .args .memo)) (k .stamp .last .0) (k .stamp .result) (MostOf sets values) (a .pre .1 .1) (k .stamp .ensures)))
+    (a .pre .0, (a .pre .1 .0, most-begins sets values (now (a .args .memo)) (k .stamp .last .0) (k .stamp .result) (a .pre .1 .1) (k .stamp .ensures)))
 
 same-length : tie.Need-same-length
 same-length c = search needs
