@@ -136,7 +136,7 @@ struct laurelsnap_place {
  *   bit, low, high               the node lists: entry k is the set named k + 2; 0 is the empty set and 1 the full one
  *   utility_bit, _low, _high     the utility lists
  *   heads, chain, memo           working lists of any length, which decide the time alone: give heads and chain as many numbers as the node
- *                                lists have entries, and memo six times as many and 12,312 more (one shorter than 6,156 is not used)
+ *                                lists have entries, and memo twelve times as many and 12,312 more (one shorter than 6,156 is not used)
  *   plan                         16 bits a step
  * laurelsnap_share makes all of them from one block of memory.
  */
@@ -194,7 +194,7 @@ struct laurelsnap_lists {
 
 /* The length of heads and of chain for such a room, and that of memo. */
 static inline size_t laurelsnap_working(struct laurelsnap_room room) { return room.nodes > room.utility ? room.nodes : room.utility; }
-static inline size_t laurelsnap_memo(struct laurelsnap_room room) { return 6 * laurelsnap_working(room) + 12312; }
+static inline size_t laurelsnap_memo(struct laurelsnap_room room) { return 12 * laurelsnap_working(room) + 12312; }
 
 /* How many bytes the lists take. */
 static inline size_t laurelsnap_bytes(struct laurelsnap_room room)

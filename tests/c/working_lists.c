@@ -19,7 +19,7 @@
 #include <sys/mman.h>
 #include <unistd.h>
 
-enum { PAGE = 4096, MOST_BYTES = 16384, MOST_PAIRS = 4096, ENTRIES = 1 << 17, FULL_MEMO = 6 * ENTRIES + 12312 };
+enum { PAGE = 4096, MOST_BYTES = 16384, MOST_PAIRS = 4096, ENTRIES = 1 << 17, FULL_MEMO = 12 * ENTRIES + 12312 };
 enum { LATER = 5, BEFORE = 16, UNTOUCHED = 0x5a };
 
 /* The lists of a search. */
@@ -301,7 +301,7 @@ static void search_task(void)
     size_t nodes = full.nodes, entries = full.entries;
     const size_t heads[HEAD_LENGTHS] = { 0, 1, 3, 777, nodes / 2, nodes, nodes + 1, 4105, 70001 };
     const size_t chain[CHAIN_LENGTHS] = { 0, 1, nodes / 2, entries - 1, nodes - 1, nodes, nodes + entries, 70001 };
-    const size_t memo[MEMO_LENGTHS] = { 0, 1, 777, 4104, 6155, 6156, 6157, 12312, 70001, 6 * nodes + 12312 };
+    const size_t memo[MEMO_LENGTHS] = { 0, 1, 777, 4104, 6155, 6156, 6157, 12312, 70001, 12 * nodes + 12312 };
     for (int round = 0; round < (nodes < 100 ? 2 : nodes < 400 ? 1 : 0); round++)
         for (int h = 0; h < HEAD_LENGTHS; h++)
             for (int c = 0; c < CHAIN_LENGTHS; c++)

@@ -37,7 +37,7 @@ pub struct Room {
 
 /// Words of the memo's two headers, and for each node entry.
 const MEMO_HEADER: usize = 12_312;
-const MEMO_WORDS: usize = 6;
+const MEMO_WORDS: usize = 12;
 
 impl Lists {
     /// Lists with this room and working lists to match, as laurelsnap_share makes them in C.

@@ -24,7 +24,7 @@ const NODES: usize = 1024;
 
 const UTILITIES: usize = 512;
 
-const MEMO: usize = 18456;
+const MEMO: usize = 24600;
 
 const STEPS: usize = 4096;
 

@@ -6,6 +6,7 @@ use mathlib.Core.Path.{_∙_}
 use denote.Ref.{now}
 use Rattle.diagrams.specs.Store.{table, blank}
 use Rattle.diagrams.proofs.Memos.{stamp-fresh}
+use Rattle.diagrams.proofs.Rows.{widened-memo}
 use Rattle.task.specs.Decode.{taskOf, sizes}
 use Rattle.utility_add.specs.Adds.{Added}
 use Rattle.utility_build.proofs.Terms.{term-small, term-asks, term-added}
@@ -38,7 +39,7 @@ add-requires c κs =
     let q = c .before .before .before .before .before .before .before .before .before .before .before .before .before .before .before .term-cube in
     let v = c .before .before .before .before .before .before .before .before .before .before .before .before .widen in
     let s = table (now (a .args .bit)) (now (a .args .low)) (now (a .args .high)) (now (a .args .heads)) (now (a .args .chain)) (a .args .count) in
-    (a .pre .0 .store, (term-asks (now (a .args .file)) (a .pre .0 .right) (a .args .t) (a .pre .1) (q .result) (q .ensures) (w .result) (w .ensures .is) (w .ensures .small) s (now (a .args .memo)) (a .args .a) (a .pre .0), stamp-fresh blank (v .last .0) (k .last .0) (k .result) (Added s (q .result .care) (q .result .value) (w .result)) (v .ensures .keeps blank (a .pre .0 .slots)) (k .ensures)))
+    (a .pre .0 .store, (term-asks (now (a .args .file)) (a .pre .0 .right) (a .args .t) (a .pre .1) (q .result) (q .ensures) (w .result) (w .ensures .is) (w .ensures .small) s (now (a .args .memo)) (a .args .a) (a .pre .0), stamp-fresh blank (v .last .0) (k .last .0) (k .result) (Added s (q .result .care) (q .result .value) (w .result)) (widened-memo (now (a .args .memo)) (v .last .0) (v .ensures) blank (a .pre .0 .slots)) (k .ensures)))
 
 same-length : tie.Need-same-length
 same-length c = added c .add .kept .0
