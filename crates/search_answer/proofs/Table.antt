@@ -69,7 +69,7 @@ pub P-plan-0 : madeOf (P 1) (lists 2 8 0) ≡ Refused 15 0
 unfolding madeOf setsOf pick
 P-plan-0 =
     let none = none-met (P 1) (lists 2 8 0) (omega (arith, P-1 .nodes-are)) (omega (arith, P-1 .pairs-are)) in
-    rw (entries-P 1, none, P-1 .nodes-are, P-1 .plan-is)
+    rw (entries-P 1, none, P-1 .plan-is)
 
 pub Q-with-5 : madeOf (Q 5) (lists 3 8 1) ≡ figures 7 7 4 5 8 4 3 1
 unfolding madeOf setsOf listingOf pick

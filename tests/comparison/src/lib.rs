@@ -53,7 +53,7 @@ pub fn lent(dice: &mut Dice, room: Room) -> Lists {
     };
     let heads = working(&[0, 1, 7, 64, 1024]);
     let chain = working(&[0, 5, 100, 4096, 20_000]);
-    let memo = working(&[0, 3, 4_103, 4_104, 4_110, 4_500, 16_384]);
+    let memo = working(&[0, 3, 6_155, 6_156, 6_160, 7_000, 16_384]);
     Lists { costs, steps, sets, wanted, bit, low, high, utility_bit, utility_low, utility_high, heads, chain, memo, plan }
 }
 
