@@ -1,4 +1,5 @@
-"""The benchmark's task families, each with three sizes between 10^4 and 10^6 nodes, and tasks of 10^3, 10^4 and 10^5 pairs.
+"""The benchmark's task families, each with three sizes between 10^4 and 10^6 nodes, tasks of 10^3, 10^4 and 10^5 pairs, and tasks of as many
+utility entries.
 
 `python3 bench/families.py FOLDER` writes them all as FAMILY-SIZE.bpt.
 """
@@ -160,6 +161,21 @@ def odometer(pairs):
     return b.task
 
 
+def wishes(count):
+    """So many terms of two or three near variables with 3, 5 and 9 values, which often exclude each other, and no operators: the search makes
+    the utility diagram, finds the ceiling in it and has one pair."""
+    dice = random.Random(4)
+    b = Builder(0)
+    sizes = [3, 5, 9] * 3
+    for k, size in enumerate(sizes):
+        b.variable(f"v{k}", size)
+    for _ in range(count):
+        first = dice.randrange(len(sizes) - 3)
+        named = dice.sample(range(first, first + 4), dice.choice((2, 3)))
+        b.term(2 ** dice.randrange(16), **{f"v{k}": dice.randrange(sizes[k]) for k in named})
+    return b.task
+
+
 FAMILIES = {
     "switches": [switches(14, 12, 45), switches(26, 12, 90), switches(32, 30, 139)],
     "counters": [counters(4, 8, 20), counters(6, 16, 40), counters(8, 16, 31)],
@@ -171,12 +187,14 @@ FAMILIES = {
 }
 # the same moves over more and more pairs
 PAIRS = {f"odometer-{pairs}": odometer(pairs) for pairs in (1_000, 10_000, 100_000)}
+# more and more terms over the same variables: 1,195, 9,952 and 89,235 utility entries
+CEILING = {f"wishes-{terms}": wishes(terms) for terms in (14, 41, 79)}
 
 
 def main(folder):
     folder.mkdir(parents=True, exist_ok=True)
     tasks = {f"{name}-{size}": task for name, tasks in FAMILIES.items() for size, task in enumerate(tasks, 1)}
-    for name, task in {**tasks, **PAIRS}.items():
+    for name, task in {**tasks, **PAIRS, **CEILING}.items():
         file = encode(task)
         decode(file)
         (folder / f"{name}.bpt").write_bytes(file)

@@ -8,15 +8,18 @@
 #include <stdlib.h>
 #include <time.h>
 
-enum { FILE_MOST = 16384, OPERATORS_MOST = 256, TERMS_MOST = 256, VARIABLES_MOST = 32, BOUND_MOST = 4095, PAIRS_MOST = 1048576 };
+enum { FILE_MOST = 16384, OPERATORS_MOST = 256, TERMS_MOST = 256, VARIABLES_MOST = 32, VALUES_MOST = 16, BOUND_MOST = 4095,
+       PAIRS_MOST = 1048576 };
 
 typedef struct { uint64_t care, value; } Cube;
 typedef struct { unsigned cost; Cube pre, eff; } Operator;
 typedef struct { unsigned weight; Cube facts; } Term;
+typedef struct { unsigned values, first, width; } Variable; /* how many values, the first bit and the number of bits */
 
 typedef struct {
-    unsigned bits, operators, terms, bound;
+    unsigned variables, bits, operators, terms, bound;
     uint64_t start;
+    Variable variable[VARIABLES_MOST];
     Operator operator[OPERATORS_MOST];
     Term term[TERMS_MOST];
 } Task;
@@ -32,19 +35,17 @@ static inline unsigned number_at(const unsigned char *file, unsigned at, unsigne
     return out;
 }
 
-typedef struct { unsigned first[VARIABLES_MOST], width[VARIABLES_MOST]; } Layout;
-
-static inline void demand(Cube *cube, const Layout *layout, unsigned var, unsigned val) {
-    for (unsigned k = 0; k < layout->width[var]; k++) {
-        uint64_t bit = 1ull << (layout->first[var] + k);
+static inline void demand(Cube *cube, const Variable *variable, unsigned val) {
+    for (unsigned k = 0; k < variable->width; k++) {
+        uint64_t bit = 1ull << (variable->first + k);
         cube->care |= bit;
-        if (val >> (layout->width[var] - 1 - k) & 1) cube->value |= bit;
+        if (val >> (variable->width - 1 - k) & 1) cube->value |= bit;
     }
 }
 
-static inline Cube cube_of(const Layout *layout, const unsigned char *facts, unsigned count) {
+static inline Cube cube_of(const Variable *variables, const unsigned char *facts, unsigned count) {
     Cube cube = {0, 0};
-    for (unsigned k = 0; k < count; k++) demand(&cube, layout, facts[2 * k], facts[2 * k + 1]);
+    for (unsigned k = 0; k < count; k++) demand(&cube, &variables[facts[2 * k]], facts[2 * k + 1]);
     return cube;
 }
 
@@ -62,27 +63,26 @@ static inline size_t read_file(const char *name, unsigned char *file) {
 static inline void read_task(Task *task, const char *name) {
     static unsigned char file[FILE_MOST];
     read_file(name, file);
-    Layout layout;
-    unsigned variables = number_at(file, 4, 2), at = number_at(file, 12, 4);
+    unsigned at = number_at(file, 12, 4);
     Cube start = {0, 0};
-    *task = (Task){.operators = number_at(file, 6, 2), .terms = number_at(file, 8, 2), .bound = number_at(file, 10, 2)};
-    for (unsigned v = 0; v < variables; v++) {
+    *task = (Task){.variables = number_at(file, 4, 2), .operators = number_at(file, 6, 2), .terms = number_at(file, 8, 2),
+                   .bound = number_at(file, 10, 2)};
+    for (unsigned v = 0; v < task->variables; v++) {
         unsigned width = 1;
         while (1u << width < file[at + 2 * v]) width++;
-        layout.first[v] = task->bits;
-        layout.width[v] = width;
+        task->variable[v] = (Variable){file[at + 2 * v], task->bits, width};
         task->bits += width;
-        demand(&start, &layout, v, file[at + 2 * v + 1]);
+        demand(&start, &task->variable[v], file[at + 2 * v + 1]);
     }
     task->start = start.value;
     for (unsigned o = 0; o < task->operators; o++) {
         const unsigned char *record = file + number_at(file, 16, 4) + 36 * o;
-        task->operator[o] = (Operator){number_at(record, 0, 2), cube_of(&layout, record + 4, record[2]),
-                                       cube_of(&layout, record + 20, record[3])};
+        task->operator[o] = (Operator){number_at(record, 0, 2), cube_of(task->variable, record + 4, record[2]),
+                                       cube_of(task->variable, record + 20, record[3])};
     }
     for (unsigned t = 0; t < task->terms; t++) {
         const unsigned char *record = file + number_at(file, 20, 4) + 12 * t;
-        task->term[t] = (Term){number_at(record, 0, 2), cube_of(&layout, record + 4, record[2])};
+        task->term[t] = (Term){number_at(record, 0, 2), cube_of(task->variable, record + 4, record[2])};
     }
 }
 
@@ -103,11 +103,12 @@ static inline double seconds(void) {
     return now.tv_sec + now.tv_nsec * 1e-9;
 }
 
-/* The line that every planner prints: what it found, the non-empty pairs, how many nodes or states it made, how long the search alone
-   took, and the plan. */
-static inline void report(unsigned long utility, unsigned long cost, unsigned long pairs, unsigned long made, double time,
-                          const uint16_t *plan, unsigned steps) {
-    printf("utility %lu cost %lu steps %u pairs %lu made %lu seconds %.6f plan", utility, cost, steps, pairs, made, time);
+/* The line that every planner prints: what it found, the ceiling, the non-empty pairs, how many nodes or states it made, how long the search
+   alone took, and the plan. */
+static inline void report(unsigned long utility, unsigned long ceiling, unsigned long cost, unsigned long pairs, unsigned long made,
+                          double time, const uint16_t *plan, unsigned steps) {
+    printf("utility %lu ceiling %lu cost %lu steps %u pairs %lu made %lu seconds %.6f plan", utility, ceiling, cost, steps, pairs, made,
+           time);
     for (unsigned k = 0; k < steps; k++) printf(" %u", plan[k]);
     printf("\n");
 }

@@ -70,7 +70,7 @@ enum laurelsnap_refusal {
     LAURELSNAP_STATE = 20,             /* the questioned state has a wrong number of values, or one out of range */
     LAURELSNAP_NODE_LISTS = 21,        /* the questioned lists are no diagrams of the task, or shorter than they are said to be */
     LAURELSNAP_OUTPUT_LIST = 22,       /* the output list is shorter than the file to be written */
-    LAURELSNAP_PAIRS = 23              /* there are more non-empty pairs than entries in their lists */
+    LAURELSNAP_PAIRS = 23              /* more non-empty pairs are made than there are entries in their lists */
 };
 
 /* The file check of the `length` bytes at `file`. */
@@ -101,12 +101,12 @@ static inline uint64_t laurelsnap_cost(struct laurelsnap_answer answer) { return
 static inline uint64_t laurelsnap_utility(struct laurelsnap_answer answer) { return answer.second; }
 
 /* What a search reports: number and value as above, then the listing's figures in the listing's order and among them the number of
-   non-empty pairs, all 0 after a refusal. */
+   non-empty pairs made, all 0 after a refusal. */
 struct laurelsnap_found {
     uint64_t number;
     uint64_t value;
     uint64_t utility;
-    uint64_t ceiling;
+    uint64_t ceiling; /* the greatest utility of any state with permitted values, reached or not */
     uint64_t cost;    /* in units of ten seconds */
     uint64_t bound;   /* in units */
     uint64_t minutes; /* the cost in whole minutes, */
@@ -118,8 +118,8 @@ struct laurelsnap_found {
     uint64_t steps;
 };
 
-/* What a question reports: number and value as above; then whether the state is reached, 1 or 0, and its place if it is: the least cost,
-   and the fewest steps at that cost. */
+/* What a question reports: number and value as above; then whether the state is reached by the pairs that the search has made, 1 or 0, and
+   its place if it is: the least cost, and the fewest steps at that cost. */
 struct laurelsnap_place {
     uint64_t number;
     uint64_t value;
@@ -130,9 +130,10 @@ struct laurelsnap_place {
 
 /*
  * The search for the best plan: greatest utility, then least cost, then fewest steps, then first in dictionary order (refusals 1 to 15 and
- * 23). Lists are lent as pointers and lengths:
- *   costs, steps, sets, wanted   an entry for each non-empty pair of cost and steps, in rising order: cost, steps, the name of the set of
- *                                states that have this place, and that of those on a way to the best ones, 0 past the best plan's pair
+ * 23). Pairs of cost and steps are made in rising order up to the bound, but none after the first that has a state of the ceiling's utility:
+ * no plan is better than the best one that ends there. Lists are lent as pointers and lengths:
+ *   costs, steps, sets, wanted   an entry for each non-empty pair made, in rising order: cost, steps, the name of the set of states that have
+ *                                this place, and that of those on a way to the best ones, 0 past the best plan's pair
  *   bit, low, high               the node lists: entry k is the set named k + 2; 0 is the empty set and 1 the full one
  *   utility_bit, _low, _high     the utility lists
  *   heads, chain, memo           working lists of any length, which decide the time alone: give heads and chain as many numbers as the node
@@ -148,7 +149,7 @@ struct laurelsnap_found laurelsnap_search(
     uint32_t *chain, size_t chain_length, uint32_t *memo, size_t memo_length, uint16_t *plan, size_t plan_length);
 
 /* The question about one state, a byte per variable, over the lists that a search has left with `count` node entries and `pairs` pairs
-   (refusals 1 to 12, 20 and 21). It answers the first pair whose set holds the state. */
+   (refusals 1 to 12, 20 and 21). It answers the first pair whose set holds the state; a state past the last pair made is not reached. */
 struct laurelsnap_place laurelsnap_question(
     const uint8_t *file, size_t file_length, const uint8_t *state, size_t state_length, const uint32_t *costs, size_t costs_length,
     const uint32_t *steps, size_t steps_length, const uint32_t *sets, size_t sets_length, const uint32_t *wanted, size_t wanted_length,

@@ -1,7 +1,7 @@
 /*
  * The static library as the bench supervisor calls it: the stand cases of the file check and the walk, searches in lists that are just long
- * enough, too short and of the greatest lengths, questions, a plan of thousands of free steps, cases of the writer, then many made-up files
- * and plans, compared with a plain check, walk and writer written here from the documents.
+ * enough, too short and of the greatest lengths, questions, searches that stop at the ceiling, a plan of thousands of free steps, cases of the
+ * writer, then many made-up files and plans, compared with a plain check, walk and writer written here from the documents.
  */
 #include "laurelsnap.h"
 
@@ -383,14 +383,14 @@ static void stands(const char *what, struct laurelsnap_place place, uint64_t num
     same(what, answer(0, place.cost, place.steps), 0, cost, steps);
 }
 
-/* The question over the lists, of which one is longer by a number, about a state of P. */
+/* The question over the lists, of which one is longer by a number, about a state. */
 static struct laurelsnap_place asked(const uint8_t *state, struct lengths lent, int longer)
 {
     size_t l[UTILITY_BIT];
     for (int i = 0; i < UTILITY_BIT; i++)
         l[i] = (i < BIT ? 8 : 16) + (i == longer);
-    return laurelsnap_question(file, length, state, 2, lists[COSTS], l[COSTS], lists[STEPS], l[STEPS], lists[SETS], l[SETS], lists[WANTED],
-        l[WANTED], lists[BIT], l[BIT], lists[LOW], l[LOW], lists[HIGH], l[HIGH], lent.nodes, lent.pairs);
+    return laurelsnap_question(file, length, state, le16(file + 4), lists[COSTS], l[COSTS], lists[STEPS], l[STEPS], lists[SETS], l[SETS],
+        lists[WANTED], l[WANTED], lists[BIT], l[BIT], lists[LOW], l[LOW], lists[HIGH], l[HIGH], lent.nodes, lent.pairs);
 }
 
 static void questions(void)
@@ -417,6 +417,46 @@ static void questions(void)
     lists[SETS][1] = (uint32_t)found.nodes + 2;
     stands("a set's name that is none", asked(start, left, LISTS), 21, 0, 0, 0);
     stands("a set's name that is none, past the pairs", asked(start, (struct lengths) { 1, found.nodes, 0, 0 }, LISTS), 0, 1, 0, 0);
+}
+
+/* Three values with a move from each to the next, and their weights: the ceiling is the greatest weight and not the sum, and no pair is made
+   after the first that attains it. Lists for these pairs are long enough, one entry less is not, and what is past them is not reached. */
+static void stops(const char *what, const size_t *weights, size_t bound, uint64_t utility, uint64_t ceiling, uint64_t steps, uint64_t pairs)
+{
+    make(1, 2, 3, bound);
+    file[28] = 3;
+    for (unsigned x = 0; x < 3; x++) {
+        if (x < 2) {
+            pre(x, 0, x);
+            eff(x, 0, x + 1);
+        }
+        put16(term_at(x), weights[x]);
+        asks(x, 0, x);
+    }
+    struct laurelsnap_found found = found_with((struct lengths) { pairs - 1, 16, 16, 2 }, LISTS);
+    same(what, answer(found.number, found.pairs, found.ceiling), 23, 0, 0);
+    found = found_with((struct lengths) { pairs, 16, 16, 2 }, LISTS);
+    same(what, answer(found.utility, found.ceiling, found.steps), utility, ceiling, steps);
+    same(what, answer(found.number, found.pairs, found.cost), 0, pairs, steps);
+    for (uint8_t x = 0; x < 3; x++) {
+        uint64_t made = x < pairs;
+        stands(what, asked(&x, (struct lengths) { found.pairs, found.nodes, 0, 0 }, LISTS), 0, made, made * x, made * x);
+    }
+}
+
+static void ceilings(void)
+{
+    stops("a ceiling that the start attains", (const size_t[]) { 5, 3, 2 }, 2, 5, 5, 0, 1);
+    stops("weights of 0", (const size_t[]) { 0, 0, 0 }, 2, 0, 0, 0, 1);
+    stops("a ceiling that a later pair attains", (const size_t[]) { 1, 5, 2 }, 2, 5, 5, 1, 2);
+    stops("a ceiling that two pairs attain", (const size_t[]) { 1, 5, 5 }, 2, 5, 5, 1, 2);
+    stops("a ceiling that the last pair attains", (const size_t[]) { 1, 2, 5 }, 2, 5, 5, 2, 3);
+    stops("a ceiling beyond the bound", (const size_t[]) { 1, 2, 5 }, 1, 2, 5, 1, 2);
+    stops("a ceiling beyond the bound, and nothing better than the start", (const size_t[]) { 3, 2, 5 }, 1, 3, 5, 0, 2);
+    make(1, 1, 0, 9);
+    eff(0, 0, 1);
+    struct laurelsnap_found found = found_with((struct lengths) { 1, 1, 1, 0 }, LISTS);
+    same("no terms", answer(found.number, found.pairs, found.ceiling), 0, 1, 0);
 }
 
 /* A counter of four digits of nine values that goes on for nothing, and is worth something at its last number. */
@@ -724,6 +764,7 @@ int main(void)
     stand_cases();
     list_lengths();
     questions();
+    ceilings();
     one_block();
     times();
     writer_cases();

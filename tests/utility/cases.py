@@ -6,9 +6,11 @@
 Tasks of up to 12 bits and 12 terms: terms with no facts, equal weights, the weights 0 and 65,535, facts in common. A task has three
 lines, which are the same, since the program does everything with memo lists of no number, of one, and of many. A line has the entry
 count; 1 and 0, since lists of that many entries hold the diagram and lists of one less do not; a sum over the values at every list of
-bits; and for each of some random sets the greatest utility and 1 (0 where it is empty) and a sum over the states that have it. Nodes are
-counted as different cofactors of the stages' value tables, sets are sets of words.
+bits; for each of some random sets the greatest utility and 1 (0 where it is empty) and a sum over the states that have it; a sum over
+the states with permitted values, and the ceiling. Nodes are counted as different cofactors of the stages' value tables, sets are sets of
+words, and the ceiling is the greatest utility of all states, tried one after the other.
 """
+import itertools
 import random
 import struct
 import sys
@@ -39,23 +41,30 @@ def encode(sizes, terms):
     return out
 
 
-def tables(sizes, terms):
-    """The value of every word of bits, bit k worth 2 ** k, at each stage; and the number of bits."""
-    widths = [width(d) for d in sizes]
-    offsets = [sum(widths[:v]) for v in range(len(sizes))]
-    n = sum(widths)
-
-    def value(word, variable):
+def numbers(sizes, word):
+    """The number that each variable's bits are in a word of bits, bit k worth 2 ** k."""
+    out, k = [], 0
+    for d in sizes:
         x = 0
-        for j in range(widths[variable]):
-            x = 2 * x + ((word >> (offsets[variable] + j)) & 1)
-        return x
+        for _ in range(width(d)):
+            x, k = 2 * x + ((word >> k) & 1), k + 1
+        out.append(x)
+    return out
 
+
+def tables(sizes, terms):
+    """The value of every word of bits at each stage; and the number of bits."""
+    n = sum(map(width, sizes))
     stages = [[0] * 2 ** n]
     for weight, facts in terms:
-        holds = [all(value(s, v) == x for v, x in facts) for s in range(2 ** n)]
+        holds = [all(numbers(sizes, s)[v] == x for v, x in facts) for s in range(2 ** n)]
         stages.append([u + weight * h for u, h in zip(stages[-1], holds)])
     return stages, n
+
+
+def ceiling(sizes, terms):
+    """The greatest utility of a state, over all of them."""
+    return max(sum(w for w, facts in terms if all(state[v] == x for v, x in facts)) for state in itertools.product(*map(range, sizes)))
 
 
 def entry_count(stages, n):
@@ -115,11 +124,14 @@ def line(sizes, terms, seed):
             continue
         top = max(last[s] for s in states)
         out += [top + 1, checksum(int(s in states and last[s] == top) for s in range(words))]
+    out.append(checksum(int(all(x < d for x, d in zip(numbers(sizes, s), sizes))) for s in range(words)))
+    out.append(ceiling(sizes, terms))
     return "".join(" %d" % x for x in out) + "\n"
 
 
 def tasks():
-    """P and Q of document 01, no terms, large weights, and generated ones, as many as the program's buffer takes."""
+    """P and Q of document 01, no terms, large weights, and generated ones, as many as the program's buffer takes; then tasks of 3, 5 and 9
+    values whose terms exclude each other, so that the weights add up to more than the ceiling."""
     rnd = random.Random(5)
     cases = [
         ([2, 2], [(2, [(0, 1)]), (1, [(0, 1), (1, 1)])]),
@@ -138,6 +150,13 @@ def tasks():
             weight = rnd.choice([0, 1, 1, 2, 3, 7, 100, 65535])
             terms.append((weight, [(v, rnd.randrange(sizes[v])) for v in variables]))
         cases.append((sizes, terms))
+    cases += [
+        ([3], [(1, [(0, 0)]), (2, [(0, 1)]), (4, [(0, 2)])]),
+        ([5], [(x + 1, [(0, x)]) for x in range(5)]),
+        ([9], [(9 - x, [(0, x)]) for x in range(9)]),
+        ([9, 5, 3], [(3, [(0, 8), (1, 4)]), (3, [(0, 8), (1, 3)]), (2, [(1, 4), (2, 2)]), (4, [(1, 4), (2, 1)]), (5, [(0, 7), (2, 2)])]),
+        ([3, 9], [(7, [(0, 2), (1, 0)]), (6, [(0, 1)]), (6, [(1, 8)]), (1, [])]),
+    ]
     return cases
 
 

@@ -5,8 +5,9 @@ use crate::{ffi, Refusal};
 /// The lists that a search is lent: the four lists of pairs, node and utility lists, working lists and the plan. A search writes into
 /// them, a question reads them again. Lengths may be anything; the search refuses those it cannot work with.
 ///
-/// For each non-empty pair of cost and steps, in rising order, there are its cost, its steps, the name of the set of states that have
-/// this place, and that of those on a way to the best ones (0 past the best plan's pair).
+/// For each non-empty pair of cost and steps that is made, in rising order, there are its cost, its steps, the name of the set of states that
+/// have this place, and that of those on a way to the best ones (0 past the best plan's pair). No pair is made after the first that has a
+/// state of the ceiling's utility.
 #[derive(Clone, Debug, Default, PartialEq, Eq)]
 pub struct Lists {
     pub costs: Vec<u32>,
@@ -53,11 +54,12 @@ impl Lists {
     }
 }
 
-/// What a search reports: the listing's figures, in the listing's order, and among them the number of non-empty pairs.
+/// What a search reports: the listing's figures, in the listing's order, and among them the number of non-empty pairs made.
 #[derive(Clone, Copy, Debug, PartialEq, Eq)]
 #[repr(C)]
 pub struct Found {
     pub utility: u64,
+    /// The greatest utility of any state with permitted values, reached or not.
     pub ceiling: u64,
     /// In units of ten seconds, as the bound.
     pub cost: u64,
@@ -80,7 +82,7 @@ impl Found {
     }
 }
 
-/// Where a state stands: at its least cost and the fewest steps at that cost.
+/// Where a state stands: at its least cost and the fewest steps at that cost, if the pairs that the search has made reach it.
 #[derive(Clone, Copy, Debug, PartialEq, Eq)]
 pub enum Place {
     At { cost: u64, steps: u64 },

@@ -5,7 +5,8 @@ use mathlib.Core.List.{List, [], _∷_}
 use native.Mathlib.Omega.{arith}
 use lib.ListN.{length}
 use Rattle.planning.specs.Connectives.{_and_, _or_, pick}
-use Rattle.planning.specs.Model.{Task, valueOf, holds, apply, stateUtility, ceiling, operatorAt, canApply, next, applicable, end, cost, utility}
+use Rattle.planning.specs.Model.{Task, valueOf, holds, apply, stateUtility, operatorAt, canApply, next, applicable, end, cost, utility}
+use Rattle.planning.specs.Ceiling.{greatestBelow, greatestOver, ceiling}
 use Rattle.planning.specs.Coding.{wide, width, bits, Facts}
 use Rattle.planning.specs.Best.{Best}
 use Rattle.planning.specs.Pairs.{stride, pairOperator, byPairs}
@@ -48,7 +49,7 @@ Q-good b = record { start = omega arith; pres = λ o h. pres o h; effs = λ o h.
     effs (suc (suc (suc zero))) h = omega arith
     effs (suc (suc (suc (suc o)))) h = absurd (omega arith)
 
-row : (t : Task) (p : List ℕ) (u top c : ℕ) → Good t → best (byPairs t) ≡ p → utility t p ≡ u → ceiling (t .terms) ≡ top → cost t p ≡ c → PlanRow t p u top c
+row : (t : Task) (p : List ℕ) (u top c : ℕ) → Good t → best (byPairs t) ≡ p → utility t p ≡ u → ceiling t ≡ top → cost t p ≡ c → PlanRow t p u top c
 row t p u top c 𝓖 e f g h = record { plan = subst (Best t) e (best-exists t 𝓖); found = e; utility = f; most = g; costs = h }
 
 -- task and bound; plan, utility of the ceiling, cost
@@ -59,7 +60,7 @@ pub plan-rows :
     × PlanRow (Q 3) [] 0 7 0
     × PlanRow (Q 4) (3 ∷ []) 7 7 4
     × PlanRow (Q 5) (3 ∷ []) 7 7 4
-unfolding _and_ _or_ pick valueOf holds apply stateUtility ceiling operatorAt canApply next applicable end cost utility prefix beginning sequences noLater better choose best wide width bits stride pairOperator byPairs fact P Q
+unfolding _and_ _or_ pick valueOf holds apply stateUtility greatestBelow greatestOver ceiling operatorAt canApply next applicable end cost utility prefix beginning sequences noLater better choose best wide width bits stride pairOperator byPairs fact P Q
 plan-rows = (
   row (P 0) [] 0 3 0 (P-good 0) refl refl refl refl,
   row (P 1) (1 ∷ []) 2 3 1 (P-good 1) refl refl refl refl,

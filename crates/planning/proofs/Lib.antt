@@ -14,6 +14,8 @@ pub mod Words
 pub mod Cubes
 pub mod Masks
 pub mod Moves
+pub mod Ceiling
+pub mod Bounds
 pub mod Count
 pub mod Shorten
 pub mod Pairs

@@ -2,7 +2,8 @@
 use Prim.Native.Nat.{ℕ}
 use mathlib.Core.Path.{_≡_}
 use mathlib.Core.List.{List, [], _∷_}
-use Rattle.planning.specs.Model.{Fact, Task, ceiling, cost, utility}
+use Rattle.planning.specs.Model.{Fact, Task, cost, utility}
+use Rattle.planning.specs.Ceiling.{ceiling}
 use Rattle.planning.specs.Best.{Best}
 use Rattle.planning.specs.Pairs.{byPairs}
 use Rattle.planning.specs.Exhaustive.{best}
@@ -45,5 +46,5 @@ pub record PlanRow (t : Task) (p : List ℕ) (u top c : ℕ) : Type 0 where
   pub plan : Best t p
   pub found : best (byPairs t) ≡ p
   pub utility : utility t p ≡ u
-  pub most : ceiling (t .terms) ≡ top
+  pub most : ceiling t ≡ top
   pub costs : cost t p ≡ c

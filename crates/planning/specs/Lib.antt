@@ -3,6 +3,7 @@ pub mod Connectives
 pub mod Model
 pub mod Coding
 pub mod Best
+pub mod Ceiling
 pub mod ByCost
 pub mod Pairs
 pub mod Exhaustive

@@ -1,5 +1,5 @@
 -- Of lists that hold the pairs of a task, the question's answer is the place of the state, its least cost and the fewest steps at that cost, if
--- that cost is at most the bound, else "not reached".
+-- the search makes that pair, else "not reached".
 use Prim.Native.Nat.{ℕ, zero, suc, _+_, _*_, _≤_, _<_}
 use mathlib.Core.Path.{_≡_, refl, sym, ap, _∙_}
 use mathlib.Core.Bool.{Bool, true, false, true≢false}
@@ -11,7 +11,9 @@ use Rattle.planning.specs.Connectives.{pick}
 use Rattle.planning.specs.Model.{Task}
 use Rattle.planning.specs.Coding.{code}
 use Rattle.planning.specs.Best.{Place}
-use Rattle.planning.specs.Pairs.{stride, pairCost, pairSteps, byPairs}
+use Rattle.planning.specs.Ceiling.{Due}
+use Rattle.planning.specs.Pairs.{stride, pairCost, pairSteps}
+use Rattle.search_theory.specs.Stop.{pairTask}
 use Rattle.planning.specs.Good.{Good}
 use Rattle.planning.proofs.Connectives.{T-true}
 use Rattle.planning.proofs.Guards.{pick-yes, pick-no}
@@ -20,8 +22,8 @@ use Rattle.diagrams.specs.Tree.{Tree, trees, member}
 use Rattle.search_theory.specs.Bits.{bitTask}
 use Rattle.search_theory.specs.Levels.{level}
 use Rattle.search_theory.specs.Pairs.{pairs}
-use Rattle.search_theory.proofs.PairDemands.{pairs-place, place-listed, listed-full}
-use Rattle.task.specs.Format.{bound}
+use Rattle.search_theory.proofs.PairDemands.{pairs-place, place-listed, listed-made}
+use Rattle.search_theory.proofs.MadePairs.{place-made, made-due}
 use Rattle.task.specs.Decode.{sizes, taskOf}
 use Rattle.task.specs.Check.{accepted}
 use Rattle.task.proofs.Goodness.{good}
@@ -62,7 +64,7 @@ module _ (t : Task) (𝓖 : Good t) (costs steps sets wanted bit low high : List
   abbrev pair : ℕ → ℕ
   pair i = getD (pairs t) i 0
 
-  held-is : (i : ℕ) → i < n → held i ≡ member (level (bitTask (byPairs t)) (pair i)) (code (t .sizes) s)
+  held-is : (i : ℕ) → i < n → held i ≡ member (level (bitTask (pairTask t)) (pair i)) (code (t .sizes) s)
   unfolding inSet
   held-is i lt = ap (λ (x : Tree). member x (code (t .sizes) s)) (names .names i lt)
 
@@ -71,28 +73,22 @@ module _ (t : Task) (𝓖 : Good t) (costs steps sets wanted bit low high : List
       rw (names .cost i lt, names .step i lt)
       (pairs-place t 𝓖 (pair i) s (state-valid (t .sizes) s right) .0 (T-true _ .1 (sym (held-is i lt) ∙ h)))
 
-  within : (i : ℕ) → i < n → getD costs i 0 ≤ t .bound
-  within i lt = rw (names .cost i lt) (listed-full t 𝓖 i (omega (arith, names .number)) .0)
+  due : (i : ℕ) → i < n → Due t (getD costs i 0) (getD steps i 0)
+  due i lt = rw (names .cost i lt, names .step i lt) (made-due t 𝓖 (pair i) (listed-made t 𝓖 i (omega (arith, names .number))))
 
-  -- a place within the bound is that of a pair whose set holds the state
-  held-place : (c k : ℕ) → Place t s c k → c ≤ t .bound → (i : ℕ) × (i < n) × (held i ≡ true)
-  held-place c k p le =
+  -- a place that is due is that of a pair whose set holds the state
+  held-place : (c k : ℕ) → Place t s c k → Due t c k → (i : ℕ) × (i < n) × (held i ≡ true)
+  held-place c k p d =
       let v = state-valid (t .sizes) s right in
-      let l = place-listed t 𝓖 s c k v p le in
+      let l = place-listed t 𝓖 s c k v p (place-made t 𝓖 s c k p d) in
       let lt : l .0 < n = omega (arith, l .1, names .number) in
       let at : Place t s (pairCost t (c * stride t + k)) (pairSteps t (c * stride t + k)) = place-is t 𝓖 s (c * stride t + k) .0 (place-number t 𝓖 s c k p .1) in
       let held-at : held (l .0) ≡ true = held-is (l .0) lt ∙ rw (l .2) (T-true _ .0 (pairs-place t 𝓖 (c * stride t + k) s v .1 at)) in
       (l .0, lt, held-at)
 
   tells : (r : Answered) → HeldPair costs steps held n 0 r → Tells t s r
-  tells r (first i below h) = (place-at i (omega arith) h, within i (omega arith))
-  tells r (nowhere out) = λ c k p. above c k p (decLt (t .bound) c)
-    where
-      above : (c k : ℕ) → Place t s c k → Dec (t .bound < c) → t .bound < c
-      above c k p (yes h) = h
-      above c k p (no h) =
-          let x = held-place c k p (omega arith) in
-          absurd (true≢false (sym (x .2) ∙ out (x .0) (omega arith) (omega (arith, x .1))))
+  tells r (first i below h) = (place-at i (omega arith) h, due i (omega arith))
+  tells r (nowhere out) = λ c k p d. let x = held-place c k p d in true≢false (sym (x .2) ∙ out (x .0) (omega arith) (omega (arith, x .1)))
 
   asked : placeFrom costs steps held n 0 ≡ askOf (t .sizes) s costs steps sets wanted bit low high count n
   unfolding askOf
@@ -109,22 +105,22 @@ module _ (f : List ℕ) (a : accepted f ≡ true) (costs steps sets wanted bit l
       let e : askOf (sizes f) s costs steps sets wanted bit low high count n ≡ questionOf f s costs steps sets wanted bit low high count n = pick-yes _ _ _ _ a refl in
       rw (← e) (ask-tells (taskOf f) (good f a) costs steps sets wanted bit low high count n names s right)
 
-  -- so a place within the bound is the answer
-  pub question-reached : (c k : ℕ) → Place (taskOf f) s c k → c ≤ bound f → questionOf f s costs steps sets wanted bit low high count n ≡ Reached c k
+  -- so a place that is due is the answer
+  pub question-reached : (c k : ℕ) → Place (taskOf f) s c k → Due (taskOf f) c k → questionOf f s costs steps sets wanted bit low high count n ≡ Reached c k
   unfolding taskOf
-  question-reached c k p le = by (questionOf f s costs steps sets wanted bit low high count n) question-tells
+  question-reached c k p d = by (questionOf f s costs steps sets wanted bit low high count n) question-tells
     where
       by : (r : Answered) → Tells (taskOf f) s r → r ≡ Reached c k
       by (Refused number place) h = absurd h
       by (Reached d m) q = let u = place-unique (taskOf f) s d m c k (q .0) p in rw (u .0, u .1)
-      by NotReached above = absurd (omega (arith, above c k p))
+      by NotReached none = absurd (none c k p d)
 
   -- and without one the state is not reached
-  pub question-not-reached : ((c k : ℕ) → Place (taskOf f) s c k → bound f < c) → questionOf f s costs steps sets wanted bit low high count n ≡ NotReached
+  pub question-not-reached : ((c k : ℕ) → Place (taskOf f) s c k → Due (taskOf f) c k → ⊥) → questionOf f s costs steps sets wanted bit low high count n ≡ NotReached
   unfolding taskOf
-  question-not-reached above = by (questionOf f s costs steps sets wanted bit low high count n) question-tells
+  question-not-reached none = by (questionOf f s costs steps sets wanted bit low high count n) question-tells
     where
       by : (r : Answered) → Tells (taskOf f) s r → r ≡ NotReached
       by (Refused number place) h = absurd h
-      by (Reached c k) q = absurd (omega (arith, above c k (q .0), q .1))
+      by (Reached c k) q = absurd (none c k (q .0) (q .1))
       by NotReached h = refl

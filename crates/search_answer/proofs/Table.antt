@@ -4,8 +4,9 @@ use mathlib.Core.Path.{_≡_, refl}
 use mathlib.Core.List.{[]}
 use native.Mathlib.Omega.{arith}
 use lib.ListN.{replicate}
-use Rattle.planning.specs.Connectives.{pick}
-use Rattle.planning.specs.Model.{ceiling}
+use Rattle.planning.specs.Connectives.{_and_, pick}
+use Rattle.planning.specs.Model.{valueOf, holds, stateUtility}
+use Rattle.planning.specs.Ceiling.{greatestBelow, greatestOver, ceiling}
 use Rattle.planning.specs.Cases.{fact, P, Q}
 use Rattle.search_theory.proofs.Table.{P-0, P-1, P-2, Q-3, Q-4, Q-5}
 use Rattle.utility.proofs.Cases.{entries-P, entries-Q}
@@ -23,16 +24,16 @@ lists m n p =
 abbrev figures : ℕ → ℕ → ℕ → ℕ → ℕ → ℕ → ℕ → ℕ → Searched
 figures u c g b n e m k = Found (record { utility = u; ceiling = c; cost = g; bound = b; nodes = n; entries = e; pairs = m; steps = k })
 
-ceiling-P : (b : ℕ) → ceiling (P b .terms) ≡ 3
-unfolding P fact ceiling
+ceiling-P : (b : ℕ) → ceiling (P b) ≡ 3
+unfolding _and_ pick valueOf holds stateUtility greatestBelow greatestOver ceiling P fact
 ceiling-P b = refl
 
 bound-P : (b : ℕ) → P b .bound ≡ b
 unfolding P
 bound-P b = refl
 
-ceiling-Q : (b : ℕ) → ceiling (Q b .terms) ≡ 7
-unfolding Q fact ceiling
+ceiling-Q : (b : ℕ) → ceiling (Q b) ≡ 7
+unfolding _and_ pick valueOf holds stateUtility greatestBelow greatestOver ceiling Q fact
 ceiling-Q b = refl
 
 bound-Q : (b : ℕ) → Q b .bound ≡ b

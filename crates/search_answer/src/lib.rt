@@ -1,6 +1,5 @@
 // The answer of a search; specs/ defines it, from the file and the lengths of the lent lists.
 use task::header::bound;
-use task_states::model::ceiling;
 ghost use mathlib.Core.Path.{_≡_};
 ghost use Rattle.task.specs.Decode.{taskOf};
 ghost use Rattle.search_answer.specs.declared.Searched.the-variants.{Refused};
@@ -35,16 +34,17 @@ pub fn refusal(number: u8) -> Searched
 pub fn figures(
     file: &[u8],
     utility: usize,
+    ceiling: usize,
     cost: usize,
     nodes: usize,
     entries: usize,
     pairs: usize,
 ) -> Listing
-    ensures { λ r. ⌜ r ≡ figuresOf (taskOf (now (file .entry))) utility cost nodes entries pairs ⌝ }
+    ensures { λ r. ⌜ r ≡ figuresOf (taskOf (now (file .entry))) utility ceiling cost nodes entries pairs ⌝ }
 {
     Listing {
         utility,
-        ceiling: ceiling(file),
+        ceiling,
         cost,
         bound: bound(file),
         nodes,

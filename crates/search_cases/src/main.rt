@@ -1,5 +1,5 @@
-// The stand cases of the search, run: figures and plans, lists of exact length and one less, free moves, and the cases on which a faulty
-// planner would still hand over a list that runs. Each answer stands on a line behind the case's name, and is compared with the file stdout.
+// The stand cases of the search, run: figures and plans, lists of exact length and one less, free moves, ceilings, and the cases on which a
+// faulty planner would still hand over a list that runs. Each answer stands on a line behind the case's name, and is compared with the file stdout.
 // Lists of 1,048,577 entries are lent from C (tests/c/supervisor.c): three of them are more than a program's stack holds.
 mod show;
 
@@ -207,6 +207,22 @@ fn by_a_free_move(name: &[u8], on: u8) {
     searched(name, &file, equal(255, 255, 255, 255));
 }
 
+// One variable of three values from 0, a move of cost 1 from each to the next, and a weight for each: only one of the terms can hold.
+fn worth(name: &[u8], first: u8, second: u8, third: u8, bound: u16) {
+    let mut file = [0u8; 138];
+    stand::header(&mut file, 1, 2, 3, bound);
+    stand::set8(&mut file, 28, 3);
+    stand::operator(&mut file, 30, b"\x01\x00\x01\x01\x00\x00", b"\x00\x01");
+    stand::operator(&mut file, 66, b"\x01\x00\x01\x01\x00\x01", b"\x00\x02");
+    stand::copy(&mut file, 102, b"\x00\x00\x01\x00\x00\x00");
+    stand::set8(&mut file, 102, first);
+    stand::copy(&mut file, 114, b"\x00\x00\x01\x00\x00\x01");
+    stand::set8(&mut file, 114, second);
+    stand::copy(&mut file, 126, b"\x00\x00\x01\x00\x00\x02");
+    stand::set8(&mut file, 126, third);
+    searched(name, &file, equal(255, 255, 255, 255));
+}
+
 // P with each bound, in lists longer than needed.
 fn bounds() {
     over_p(b"P 0, search", 0, equal(255, 255, 255, 255));
@@ -328,6 +344,16 @@ fn free_moves() {
     by_a_free_move(b"a free move and a step, or one step", 1);
 }
 
+// Where the search stops: no pair is made after the first that attains the ceiling, which is the greatest weight and not the sum.
+fn ceilings() {
+    worth(b"the start attains the ceiling", 5, 3, 2, 2);
+    worth(b"a later pair attains the ceiling", 1, 5, 2, 2);
+    worth(b"two pairs attain the ceiling", 1, 5, 5, 2);
+    worth(b"the last pair attains the ceiling", 1, 2, 5, 2);
+    worth(b"no pair attains the ceiling", 1, 2, 5, 1);
+    worth(b"weights of 0", 0, 0, 0, 2);
+}
+
 fn main() {
     searched(b"search over a refused file", b"BPT1", equal(0, 0, 0, 0));
     bounds();
@@ -335,4 +361,5 @@ fn main() {
     unequal_lists();
     faults();
     free_moves();
+    ceilings();
 }

@@ -12,8 +12,10 @@ pub mod Optimum
 pub mod Plan
 pub mod Task
 pub mod Demands
+pub mod Stop
 pub mod PairLists
 pub mod PairDemands
+pub mod MadePairs
 pub mod Counted
 pub mod Made
 pub mod Refusals

@@ -4,6 +4,7 @@ pub mod Bits
 pub mod Passes
 pub mod Levels
 pub mod Optimum
+pub mod Stop
 pub mod Wanted
 pub mod Made
 pub mod Pairs

@@ -9,7 +9,7 @@ use lib.ListN.{length, replicate}
 use Rattle.planning.specs.Connectives.{pick, _or_}
 use Rattle.planning.specs.Model.{Task}
 use Rattle.planning.specs.Best.{Best}
-use Rattle.planning.specs.Pairs.{byPairs}
+use Rattle.search_theory.specs.Stop.{pairTask}
 use Rattle.planning.proofs.Cases.{plan-rows}
 use Rattle.task.specs.Check.{checkOf}
 use Rattle.task.specs.Decode.{taskOf}
@@ -44,7 +44,7 @@ figures u c g b n e m k = Found (record { utility = u; ceiling = c; cost = g; bo
 pub record Finds (f : List ℕ) (l : Lent) (utility cost : ℕ × ℕ) (time : ℕ × ℕ × ℕ) (nodes : ℕ × ℕ) (pairs : ℕ) (plan : List ℕ) : Type 0 where
   pub answers : searchOf f l ≡ figures (utility .0) (utility .1) (cost .0) (cost .1) (nodes .0) (nodes .1) pairs (length plan)
   pub takes : timeOf (cost .0) (cost .1) ≡ record { minutes = time .0; units = time .1; unused = time .2 }
-  pub hands-over : planOf (byPairs (taskOf f)) ≡ plan
+  pub hands-over : planOf (pairTask (taskOf f)) ≡ plan
   pub best : Best (taskOf f) plan
 
 -- so many variables of 16 values, starting at 0
@@ -102,13 +102,13 @@ finds :
     → Holds f t
     → searchOf f l ≡ figures (utility .0) (utility .1) (cost .0) (cost .1) (nodes .0) (nodes .1) pairs (length plan)
     → timeOf (cost .0) (cost .1) ≡ record { minutes = time .0; units = time .1; unused = time .2 }
-    → planOf (byPairs t) ≡ plan
+    → planOf (pairTask t) ≡ plan
     → Best t plan
     → Finds f l utility cost time nodes pairs plan
 finds {plan = plan} h a m r s = record {
   answers = a;
   takes = m;
-  hands-over = ap (λ x. planOf (byPairs x)) (h .task) ∙ r;
+  hands-over = ap (λ x. planOf (pairTask x)) (h .task) ∙ r;
   best = subst (λ x. Best x plan) (sym (h .task)) s;
 }
 

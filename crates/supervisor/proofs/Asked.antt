@@ -1,6 +1,6 @@
 -- Search, then question: after a search that found a plan, the question over the lists that it left answers the place of a state, its least
--- cost and the fewest steps at that cost, or "not reached" exactly if the state has no place within the bound. Assumes nothing.
-use Prim.Native.Nat.{ℕ, _≤_, _<_}
+-- cost and the fewest steps at that cost, or "not reached" exactly if it has none among the pairs that the search makes. Assumes nothing.
+use Prim.Native.Nat.{ℕ}
 use mathlib.Core.Path.{_≡_, ap, subst}
 use mathlib.Core.Bool.{true, false}
 use mathlib.Core.List.{List}
@@ -8,7 +8,8 @@ use mathlib.Core.Logic.{_↔_}
 use native.Mathlib.Omega.{arith}
 use lib.ListN.{length}
 use Rattle.planning.specs.Best.{Place}
-use Rattle.planning.specs.Pairs.{byPairs}
+use Rattle.planning.specs.Ceiling.{Due}
+use Rattle.search_theory.specs.Stop.{pairTask}
 use Rattle.task.specs.Decode.{taskOf}
 use Rattle.lent_lists.specs.Lists.{listsWrong, pairsWrong}
 use Rattle.lent_lists.proofs.Passing.{or-neither}
@@ -29,7 +30,7 @@ module _ (f : List ℕ) (before after : Lent) (l : Listing) (s : Searches f befo
   abbrev p : PassedTests f before l
   p = passed f before l (s .answers)
 
-  counted : l .nodes ≡ nodeCount (byPairs (taskOf f))
+  counted : l .nodes ≡ nodeCount (pairTask (taskOf f))
   unfolding listingOf
   counted = ap (λ (x : Listing). x .nodes) (p .listing)
 
@@ -66,18 +67,18 @@ module _ (f : List ℕ) (before after : Lent) (l : Listing) (s : Searches f befo
     unfolding taskOf
     tells = question-tells f (p .sound) (after .costs) (after .steps) (after .sets) (after .wanted) (after .bit) (after .low) (after .high) (l .nodes) (l .pairs) leaves-pairs state right
 
-    -- it is a cost and steps exactly if these are the state's place, and the cost is within the bound
-    pub search-then-question : (c k : ℕ) → (asked ≡ Reached c k) ↔ (Place (taskOf f) state c k × (c ≤ taskOf f .bound))
+    -- it is a cost and steps exactly if these are the state's place, and the search makes that pair
+    pub search-then-question : (c k : ℕ) → (asked ≡ Reached c k) ↔ (Place (taskOf f) state c k × Due (taskOf f) c k)
     unfolding taskOf
     search-then-question c k = (
       λ e. subst (Tells (taskOf f) state) e tells,
       λ h. question-reached f (p .sound) (after .costs) (after .steps) (after .sets) (after .wanted) (after .bit) (after .low) (after .high) (l .nodes) (l .pairs) leaves-pairs state right c k (h .0) (h .1),
     )
 
-    -- and "not reached" exactly if the state has no place within the bound
-    pub search-then-not-reached : (asked ≡ NotReached) ↔ ((c k : ℕ) → Place (taskOf f) state c k → taskOf f .bound < c)
+    -- and "not reached" exactly if the state's place is no such pair
+    pub search-then-not-reached : (asked ≡ NotReached) ↔ ((c k : ℕ) → Place (taskOf f) state c k → Due (taskOf f) c k → ⊥)
     unfolding taskOf
     search-then-not-reached = (
       λ e. subst (Tells (taskOf f) state) e tells,
-      λ above. question-not-reached f (p .sound) (after .costs) (after .steps) (after .sets) (after .wanted) (after .bit) (after .low) (after .high) (l .nodes) (l .pairs) leaves-pairs state right above,
+      λ none. question-not-reached f (p .sound) (after .costs) (after .steps) (after .sets) (after .wanted) (after .bit) (after .low) (after .high) (l .nodes) (l .pairs) leaves-pairs state right none,
     )

@@ -1,12 +1,13 @@
 // The utility diagrams of the task files on standard input, which stand there one behind the other. For each file three lines that must be
 // the same, with memo lists of no number, of one, and of many: the entry count; whether lists of that many entries hold the diagram, and
-// lists of one less; a sum over its values at every list of bits; and, within random sets, the greatest utility and 1, and a sum over the
-// states that have it.
+// lists of one less; a sum over its values at every list of bits; within random sets, the greatest utility and 1, and a sum over the
+// states that have it; a sum over the states with permitted values, and the ceiling.
 use diagram_apply::difference;
 use diagram_apply::union;
 use diagrams::Made;
 use diagrams::done;
 use task::bytes::le32;
+use task::limits::MOST_BITS;
 ghost use mathlib.Core.Path.{_≡_};
 ghost use mathlib.Core.Bool.{true};
 ghost use Prim.Native.Nat.{_+_, _≤_, _<_};
@@ -15,7 +16,9 @@ ghost use Rattle.diagrams.specs.Tree.{meetT};
 ghost use Rattle.diagrams.specs.Store.{table, tree, Store};
 ghost use Rattle.diagrams.specs.Memo.{MakesWith};
 ghost use Rattle.task.specs.Check.{accepted};
+ghost use Rattle.task.specs.Decode.{taskOf};
 ghost use Rattle.utility.specs.Reading.{nodes};
+ghost use Rattle.utility.specs.Valued.{Valued};
 ghost use Rattle.utility_cases.specs.Ready.{Ready, Goes};
 
 // The entries lent.
@@ -342,6 +345,43 @@ fn show_fit(file: &[u8], n: usize, m: usize)
     }
 }
 
+// A sum over the states with permitted values, among the lists of n bits.
+fn permitted(file: &[u8], n: usize) -> u64
+    requires { ⌜ accepted (now file) ≡ true ⌝ }
+{
+    let mut bit = [0u32; MOST_BITS];
+    let mut low = [0u32; MOST_BITS];
+    let mut high = [0u32; MOST_BITS];
+    let mut heads = [0u32; MOST_BITS];
+    let mut chain = [0u32; MOST_BITS];
+    let r = utility_ceiling::permitted_states(
+        file,
+        &mut bit[..],
+        &mut low[..],
+        &mut high[..],
+        &mut heads[..],
+        &mut chain[..],
+    );
+    checksum(&bit[..], &low[..], &high[..], r.name, n)
+}
+
+// The ceiling, from the utility diagram named u.
+fn show_ceiling(
+    file: &[u8],
+    ubit: &[u32],
+    ulow: &[u32],
+    uhigh: &[u32],
+    memo: &mut [u32],
+    ucount: usize,
+    u: u32,
+)
+    requires { ⌜ accepted (now file) ≡ true ⌝ }
+    requires { ⌜ Valued (taskOf (now file)) (nodes (now ubit) (now ulow) (now uhigh) ucount) u ⌝ }
+{
+    let top = utility_ceiling::ceiling(file, ubit, ulow, uhigh, memo, ucount, u);
+    show(top as u64);
+}
+
 // All that is shown of an accepted file, with memo lists of m numbers.
 fn run(
     file: &[u8],
@@ -388,6 +428,8 @@ fn run(
         n,
         seed,
     );
+    show(permitted(file, n));
+    show_ceiling(file, ubit, ulow, uhigh, memo, r.count, r.name);
 }
 
 // A line for a file, with memo lists of m numbers.

@@ -1,12 +1,12 @@
 //! What generated tasks should have so that agreeing on them says something, told from what the single-state search found.
 
-use reference::plan::{best, Fault};
+use reference::plan::{best, reach, Fault};
 use reference::search::Found;
 use reference::task::{apply, holds, Operator, State};
 use std::collections::HashMap;
 
 /// The names of the features, in the order of `features`.
-pub const NAMES: [&str; 11] = [
+pub const NAMES: [&str; 19] = [
     "many equal cost sums",
     "ties in utility",
     "effects without preconditions",
@@ -18,6 +18,14 @@ pub const NAMES: [&str; 11] = [
     "a hundred free steps in a row",
     "more steps at equal cost",
     "gaps in the steps of a cost",
+    "a domain of 3 values",
+    "a domain of 5 values",
+    "a domain of 9 values",
+    "terms that exclude each other",
+    "a ceiling attained at the start",
+    "a ceiling attained at a later pair with pairs left",
+    "a ceiling attained at the last pair",
+    "a ceiling that is not attained",
 ];
 
 /// So many states with several cheapest sequences are many.
@@ -39,10 +47,11 @@ fn equal_sums(found: &Found) -> usize {
     last_steps.values().filter(|&&n| n > 1).count()
 }
 
-/// The moves that change a state for nothing, and where they lead.
+/// The moves that change a state for nothing, and where they lead in the pairs made.
 fn free_moves<'a>(found: &'a Found, state: &'a State) -> impl Iterator<Item = State> + 'a {
     let free = |o: &&Operator| o.cost == 0 && holds(&o.pre, state);
-    found.task.operators.iter().filter(free).map(|o| apply(&o.eff, state)).filter(move |next| next != state)
+    let made = move |next: &State| next != state && found.reached.contains_key(next);
+    found.task.operators.iter().filter(free).map(|o| apply(&o.eff, state)).filter(made)
 }
 
 /// Whether free moves lead from some state around and back: taking away states that no free move leads to does not end in none.
@@ -61,7 +70,7 @@ fn free_cycle(found: &Found) -> bool {
             let count = leading.get_mut(&next).expect("counted above");
             *count -= 1;
             if *count == 0 {
-                rest.push(found.reached.get_key_value(&next).expect("free moves stay within the bound").0);
+                rest.push(found.reached.get_key_value(&next).expect("free moves in the pairs made").0);
             }
         }
     }
@@ -105,8 +114,16 @@ fn free_effect(found: &Found) -> bool {
     free.map(|o| &o.pre).any(|pre| allowed(pre))
 }
 
+/// Whether the best plan's utility is the ceiling, and whether states within the bound are past the pairs made.
+fn attained(found: &Found) -> (bool, bool) {
+    (found.best.utility == found.ceiling, reach(&found.task, Fault::None).len() > found.reached.len())
+}
+
 /// Which features the task has.
 pub fn features(found: &Found) -> [bool; NAMES.len()] {
+    let domain = |values: u8| found.task.sizes.contains(&values);
+    let (attained, left) = attained(found);
+    let later = found.goal() > (0, 0);
     [
         equal_sums(found) >= MANY,
         found.best.utility > 0 && as_useful(found) > 1,
@@ -119,6 +136,14 @@ pub fn features(found: &Found) -> [bool; NAMES.len()] {
         free_row(found) >= LONG,
         longer_ways(found),
         gap(found),
+        domain(3),
+        domain(5),
+        domain(9),
+        found.task.terms.iter().map(|t| t.weight).sum::<u64>() > found.ceiling,
+        found.ceiling > 0 && attained && !later,
+        attained && later && left,
+        attained && later && !left,
+        !attained,
     ]
 }
 

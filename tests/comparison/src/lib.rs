@@ -1,6 +1,6 @@
 //! One search, question or canonical file, asked of the proved library and of the reference planner, and compared in full.
 //!
-//! A search is compared in its figures, the whole plan, the states of every pair with those of the single-state search, the node
+//! A search is compared in its figures, the whole plan, the states of every pair made with those of the single-state search, the node
 //! entries, and in what the lists keep. The first difference is told with both answers.
 
 pub mod features;
@@ -93,7 +93,7 @@ fn members(lists: &Lists, name: u32, k: u32, bits: u32, word: u64, out: &mut Vec
     members(lists, high, k + 1, bits, word | 1 << k, out);
 }
 
-/// Every pair, state by state: its set holds the states that have this place, and no other list of bits.
+/// Every pair made, state by state: its set holds the states that have this place, and no other list of bits.
 fn compare_pairs(task: &Task, reached: &Reached, lists: &Lists) -> Result<(), Difference> {
     let mut expected: BTreeMap<(u64, u64), Vec<u64>> = BTreeMap::new();
     for (state, way) in reached {

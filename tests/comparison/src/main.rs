@@ -16,7 +16,7 @@ Tasks are planned by the proved library and by a search over single states; stop
 const TASKS: usize = 300;
 /// The greatest bound; the tasks' bounds go from 0 to here in turn, but each of so many tasks has just what its best plan costs.
 const BOUND: u64 = 40;
-const SPENT: usize = 8;
+const SPENT: usize = 6;
 /// What is lent, more than a generated task needs.
 const ROOM: Room = Room { nodes: 65_536, utility: 2_048, pairs: 4_096, steps: 4_096 };
 /// What is lent for a task file.

@@ -1,12 +1,14 @@
-//! The library's search and question against the reference: figures, plan, every pair, the node entries, and what each refusal
+//! The library's search and question against the reference: figures, plan, every pair made, the node entries, and what each refusal
 //! leaves as it was.
 
 use comparison::{compare_question, compare_search, lent};
 use laurelsnap::{question, search, Lists, Place, Refusal, Room};
+use reference::ceiling::{ceiling, last_pair};
 use reference::example;
 use reference::plan::{reach, Fault};
-use reference::random::{counter_task, damage, file, task, Dice};
+use reference::random::{counter_task, damage, file, task, terms_task, Dice};
 use reference::search::Lengths;
+use reference::task::{encode, Fact, Operator, Task, Term};
 
 /// More than most generated tasks need, and no more nodes than the longest working list has links.
 const ROOM: Room = Room { nodes: 20_000, utility: 300, pairs: 2_048, steps: 2_048 };
@@ -154,11 +156,12 @@ fn questions_agree() {
     assert!([0, 12, 20, 21].iter().all(|&n| met[n] > 20), "{met:?}");
 }
 
-/// Every state of generated tasks, asked of the lists that a search left, against a search over single states.
+/// Every state of generated tasks, asked of the lists that a search left, against a search over single states: its place, if that is a pair
+/// made, so no state past the first pair that attains the ceiling is reached.
 #[test]
 fn every_state_has_its_place() {
     let mut dice = Dice(25);
-    let (mut tasks, mut reached_states) = (0, 0);
+    let (mut tasks, mut reached_states, mut past) = (0, 0, 0);
     for _ in 0..1_000 {
         let random = task(&mut dice);
         let states: usize = random.sizes.iter().map(|&d| d as usize).product();
@@ -168,7 +171,9 @@ fn every_state_has_its_place() {
         let whole = file(&mut dice, &random);
         let mut lists = lent(&mut dice, ROOM);
         let Ok(found) = search(&whole, &mut lists) else { continue };
-        let ways = reach(&random, Fault::None);
+        let mut ways = reach(&random, Fault::None);
+        let (all, last) = (ways.len(), last_pair(&random, &ways, ceiling(&random)));
+        ways.retain(|_, way| way.place() <= last);
         for number in 0..states {
             let mut rest = number;
             let mut digit = |d: u8| {
@@ -185,8 +190,61 @@ fn every_state_has_its_place() {
         }
         tasks += 1;
         reached_states += ways.len();
+        past += all - ways.len();
     }
-    assert!(tasks > 100 && reached_states > 1_000, "{tasks} tasks, {reached_states} states reached");
+    assert!(tasks > 100 && reached_states > 1_000 && past > 1_000, "{tasks} tasks, {reached_states} states reached, {past} past");
+}
+
+/// The ceilings of tasks with many terms, over more states than can be tried.
+#[test]
+fn ceilings_agree() {
+    let mut dice = Dice(27);
+    let (mut below_sum, mut entries) = (0, 0);
+    for _ in 0..300 {
+        let random = terms_task(&mut dice);
+        let lists = Lists::new(Room { nodes: 64, utility: 1 << 15, pairs: 1, steps: 0 });
+        let found = compare_search(&file(&mut dice, &random), lists).unwrap_or_else(|difference| panic!("{difference}"));
+        let found = found.expect("long lists");
+        below_sum += (found.ceiling < random.terms.iter().map(|t| t.weight).sum()) as usize;
+        entries = found.entries.max(entries);
+    }
+    assert!(below_sum > 200 && entries > 10_000, "{below_sum} ceilings below the sum of weights, at most {entries} entries");
+}
+
+/// One variable of three values with a move of cost 1 from each to the next, and terms of these weights for the values.
+fn steps_up(weights: [u64; 3], bound: u64) -> Vec<u8> {
+    let fact = |val: u8| vec![Fact { var: 0, val }];
+    let operators = (0..2).map(|x| Operator { cost: 1, pre: fact(x), eff: fact(x + 1) }).collect();
+    let terms = weights.iter().zip(0..).map(|(&weight, x)| Term { weight, facts: fact(x) }).collect();
+    encode(&Task { sizes: vec![3], start: vec![0], operators, terms, bound })
+}
+
+/// The ceiling is the greatest weight, not their sum, and the pairs go up to the first that attains it, or to the bound.
+#[test]
+fn the_search_stops_at_the_ceiling() {
+    let cases = [
+        ([5, 3, 2], 2, 5, 5, vec![]),
+        ([5, 5, 5], 2, 5, 5, vec![]),
+        ([0, 0, 0], 2, 0, 0, vec![]),
+        ([1, 5, 2], 2, 5, 5, vec![0]),
+        ([1, 5, 5], 2, 5, 5, vec![0]),
+        ([1, 2, 5], 2, 5, 5, vec![0, 1]),
+        ([1, 2, 5], 1, 2, 5, vec![0]),
+        ([3, 2, 5], 1, 3, 5, vec![]),
+    ];
+    for (weights, bound, utility, greatest, plan) in cases {
+        let whole = steps_up(weights, bound);
+        let mut lists = Lists::new(Room { nodes: 64, utility: 64, pairs: 8, steps: 8 });
+        let found = search(&whole, &mut lists).expect("a plan");
+        assert_eq!((found.utility, found.ceiling), (utility, greatest));
+        assert_eq!(found.plan(&lists), plan);
+        let made = if utility == greatest { plan.len() as u64 } else { bound };
+        assert_eq!(found.pairs, made + 1);
+        for x in 0..3 {
+            let place = if x <= made { Place::At { cost: x, steps: x } } else { Place::NotReached };
+            assert_eq!(question(&whole, &lists, found.nodes, found.pairs, &[x as u8]), Ok(place));
+        }
+    }
 }
 
 #[test]

@@ -1,7 +1,8 @@
 //! The planner's definitions once more, straight from its scope document and without a thought for speed: the file check,
-//! the writer, the walk, the best plan by a search over single states, the sets made with their node count, and the question.
+//! the writer, the walk, the best plan by a search over single states, the ceiling, the sets made with their node count, and the question.
 //! It shares nothing with the proved library, so that each can be tested against the other.
 
+pub mod ceiling;
 pub mod diagrams;
 pub mod plan;
 pub mod question;

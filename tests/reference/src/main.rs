@@ -8,7 +8,7 @@ use std::io::Write;
 use std::process::ExitCode;
 
 const USAGE: &str = "reference plan FILE [ENTRIES]    the listing, with osp-list's lists or so many entries in each list
-reference pairs FILE [ENTRIES]   a line for each pair: cost, steps, states in its set and in its wanted set (- past the target)
+reference pairs FILE [ENTRIES]   a line for each pair made: cost, steps, states in its set and in its wanted set (- past the target)
 reference faults FILE            the best plan, and what planners with the named faults hand over
 reference walk FILE OPERATOR...  cost and utility of a plan, or its refusal
 reference write FILE             the canonical file on standard output

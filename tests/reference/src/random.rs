@@ -104,6 +104,7 @@ fn counter_moves(dice: &mut Dice, size: u8, digits: usize) -> Vec<Operator> {
 
 /// A task with a counter of more than a hundred numbers and a lamp that can be lit at some of them, for something or for nothing. Now
 /// and then the counter starts again after its last number, goes on only while the lamp is out, and has moves of two numbers at once.
+/// Most want the lamp lit at some number where it need not be possible, so that the ceiling may be out of reach.
 pub fn counter_task(dice: &mut Dice) -> Task {
     let (size, digits) = dice.pick(&COUNTERS);
     let lamp = digits as u8;
@@ -136,11 +137,18 @@ pub fn counter_task(dice: &mut Dice) -> Task {
         let (at, asked) = (number(dice), dice.between(1, digits.min(TERM_FACTS)));
         terms.push(Term { weight: dice.pick(&[1, 2, 9]), facts: facts_of(dice, &sizes[..digits], asked, &at) });
     }
+    if !dice.one_in(4) {
+        let (at, asked) = (number(dice), dice.between(1, digits.min(TERM_FACTS - 1)));
+        let mut facts = facts_of(dice, &sizes[..digits], asked, &at);
+        facts.push(Fact { var: lamp, val: 2 });
+        terms.push(Term { weight: dice.pick(&[4, 9, 20]), facts });
+    }
     Task { start: vec![0; sizes.len()], sizes, operators, terms, bound: dice.between(0, 12) as u64 }
 }
 
 /// A valid task with at most some thousand states: ties in utility, equal cost sums, moves that cost nothing, effects without
-/// preconditions, domains that are no powers of two, bounds 0 to 40.
+/// preconditions, domains that are no powers of two, terms that exclude each other, ceilings that the start attains, a later state or
+/// none, bounds 0 to 40.
 pub fn task(dice: &mut Dice) -> Task {
     if dice.one_in(5) {
         return counter_task(dice);
@@ -148,7 +156,7 @@ pub fn task(dice: &mut Dice) -> Task {
     let mut sizes: Vec<u8> = Vec::new();
     let states = dice.pick(&[8, 128, 512, 2000, 2000]);
     for _ in 0..dice.between(2, 9) {
-        let size = dice.pick(&[2, 2, 2, 3, 3, 3, 4, 5, 6, 7, 9, 13, 16]);
+        let size = dice.pick(&[2, 2, 2, 3, 3, 3, 4, 5, 5, 6, 7, 9, 9, 13, 16]);
         if sizes.iter().map(|&d| d as usize).product::<usize>() * size as usize <= states {
             sizes.push(size);
         }
@@ -177,8 +185,30 @@ pub fn task(dice: &mut Dice) -> Task {
         let facts = if dice.one_in(4) { facts(dice, &sizes, count) } else { facts_of(dice, &sizes, count, &wanted) };
         terms.push(Term { weight: dice.pick(weights), facts });
     }
+    if !terms.is_empty() && !dice.one_in(4) {
+        // values that no move need bring together, worth more than most terms
+        let (count, weight) = (dice.pick(&[2, 3, 4, 4]), dice.pick(&[2, 5, 65_535]));
+        terms.push(Term { weight, facts: facts(dice, &sizes, count) });
+    }
     let bound = if dice.one_in(4) { dice.below(4) } else { dice.between(0, 40) };
     Task { sizes, start, operators, terms, bound: bound as u64 }
+}
+
+/// A task without operators and with many terms of near variables, which often exclude each other. It may have far more states than can be
+/// tried, and some ten thousand utility entries.
+pub fn terms_task(dice: &mut Dice) -> Task {
+    const NEAR: usize = 4;
+    let sizes: Vec<u8> = (0..dice.between(NEAR, 12)).map(|_| dice.pick(&[2, 3, 3, 5, 5, 9, 9, 16])).collect();
+    let start: State = sizes.iter().map(|&d| dice.below(d as usize) as u8).collect();
+    let weights: &[u64] = dice.pick(&[&[1][..], &[1, 2, 3], &[1, 2, 4, 8, 16, 32, 64], &[0, 5, 65_535]]);
+    let mut terms = Vec::new();
+    for _ in 0..dice.pick(&[5, 10, 20, 30]) {
+        let (first, count) = (dice.between(0, sizes.len() - NEAR), dice.between(1, 3));
+        let near = facts(dice, &sizes[first..first + NEAR], count);
+        let facts = near.iter().map(|f| Fact { var: f.var + first as u8, ..*f }).collect();
+        terms.push(Term { weight: dice.pick(weights), facts });
+    }
+    Task { sizes, start, operators: vec![], terms, bound: 0 }
 }
 
 /// A valid task of any size that the file allows, for the file check and the walk.

@@ -1,5 +1,6 @@
 //! The search's answer from file bytes and list lengths (refusals 1 to 15 and 23), and the test of the lists it leaves.
 
+use crate::ceiling::{ceiling, last_pair};
 use crate::diagrams::Node;
 use crate::plan::{choose, reach, Best, Fault, Place, Reached};
 use crate::question::Lists;
@@ -22,7 +23,7 @@ pub struct Lengths {
 /// What the program osp-list lends.
 pub const OSP_LIST: Lengths = Lengths { pairs: [4096; 4], nodes: [1024; 3], utility: [512; 3], plan: 4096 };
 
-/// What success reports, with the states and the sets behind it.
+/// What success reports, with the states of the pairs made and the sets behind it.
 #[derive(Debug)]
 pub struct Found {
     pub task: Task,
@@ -48,14 +49,16 @@ pub fn search(file: &[u8], lengths: &Lengths) -> Result<Found, Refusal> {
     if entries > lengths.utility[0] {
         return refuse(13, 0);
     }
-    let reached = reach(&task, Fault::None);
+    let mut reached = reach(&task, Fault::None);
     let best = choose(&task, &reached, Fault::None);
-    let sets = make(&task, &best, &reached, Pairs::Offered, lengths.nodes[0], lengths.pairs[0])?;
+    let ceiling = ceiling(&task);
+    let last = last_pair(&task, &reached, ceiling);
+    reached.retain(|_, way| way.place() <= last);
+    let sets = make(&task, &best, &reached, last, Pairs::Offered, lengths.nodes[0], lengths.pairs[0])?;
     let nodes = sets.counted.len();
     if best.plan.len() > lengths.plan {
         return refuse(15, 0);
     }
-    let ceiling = task.ceiling();
     Ok(Found { task, reached, best, ceiling, nodes: nodes as u64, entries: entries as u64, sets })
 }
 
@@ -91,7 +94,7 @@ impl Found {
         out
     }
 
-    /// The number of non-empty pairs.
+    /// The number of non-empty pairs made.
     pub fn pairs(&self) -> usize {
         self.sets.levels.len()
     }
@@ -101,7 +104,7 @@ impl Found {
         (self.best.cost, self.best.plan.len() as u64)
     }
 
-    /// Each non-empty pair with the number of states in its set, and in its wanted set unless the pair is past the target.
+    /// Each non-empty pair made with the number of states in its set, and in its wanted set unless the pair is past the target.
     pub fn sizes(&self) -> Vec<(Place, u64, Option<u64>)> {
         let members = |&set: &u32| self.sets.diagrams.members(set, self.task.bits() as u32);
         self.sets.levels.iter().map(|(&pair, set)| (pair, members(set), self.sets.wanted.get(&pair).map(members))).collect()
@@ -125,7 +128,7 @@ impl Found {
     }
 
     /// Whether the lists begin with what success promises: the counted nodes, each once and children first, and an entry for
-    /// each non-empty pair with its cost, its steps and the names of its set and its wanted set. Says what is wrong otherwise.
+    /// each non-empty pair made with its cost, its steps and the names of its set and its wanted set. Says what is wrong otherwise.
     pub fn test_lists(&mut self, lists: &Lists) -> Result<(), String> {
         let count = self.nodes as usize;
         let mut names = vec![0, 1];

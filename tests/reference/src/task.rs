@@ -84,10 +84,6 @@ impl Task {
         self.terms.iter().filter(|t| holds(&t.facts, state)).map(|t| t.weight).sum()
     }
 
-    pub fn ceiling(&self) -> u64 {
-        self.terms.iter().map(|t| t.weight).sum()
-    }
-
     pub fn bits(&self) -> usize {
         self.sizes.iter().map(|&d| width(d)).sum()
     }

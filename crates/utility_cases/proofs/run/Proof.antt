@@ -13,11 +13,14 @@ built-1 c = c .before .before .before .before .before .before .before .before .b
 abbrev built-2 : tie.Then2 → tie.After-build
 built-2 c = c .before .before .before .before .before .before .before .before .before .before .before .before .before .before .before
 
-abbrev built-3 : tie.After-slice-known21 → tie.After-build
-built-3 c = c .before .before .before .before .before .before .before .before .before .before .before .before .before .before .before .before .before .before .before .before .before .before .before .before .before .before .before .before .before .before .before .before .before .before .before .before .before .before .before .before .before .before .before .before .before .before .before
+abbrev built-3 : tie.After-within-sets → tie.After-build
+built-3 c = c .before .before .before .before .before .before .before .before .before .before .before .before .before .before .before .before .before .before .before .before .before .before .before .before .before .before .before .before .before .before .before .before .before .before .before
 
-abbrev shown-3 : tie.After-slice-known21 → tie.After-within-sets
-shown-3 c = c .before .before .before .before .before .before .before .before .before .before .before .before
+abbrev shown-3 : tie.After-slice-known22 → tie.After-within-sets
+shown-3 c = c .before .before .before .before .before .before .before .before .before .before .before .before .before .before .before .before .before .before .before .before .before
+
+abbrev last-3 : tie.After-slice-known22 → tie.After-show-ceiling
+last-3 c = c .before .before
 
 build-requires : tie.Need-build-requires
 build-requires c κs =
@@ -102,14 +105,27 @@ within-sets-requires c κs =
     let s = table (k .last .1 .0) (k .last .1 .1 .0) (k .last .1 .1 .1 .0) (k .last .1 .1 .1 .1 .0) (k .last .1 .1 .1 .1 .1 .0) (k .result .count) in
     ((store-bare s (d .store), d .within), c .before .before .before .before .before .before .before .before .before .before .before .before .before .before .before .before .before .before .before .before .before .before .before .before .before .before .before .before .before .before .before .before .before .before .before .before .before .before .before .before .before .before .before .before .before .before .before .before .before .before .before .pre .1 .1)
 
+permitted-requires : tie.Need-permitted-requires
+permitted-requires c κs = c .before .before .before .before .before .before .before .before .before .before .before .before .before .before .before .before .before .before .before .before .before .before .before .before .before .before .before .before .before .before .before .before .before .before .before .before .before .before .before .before .before .before .before .before .before .before .before .before .before .before .before .before .before .before .before .before .before .before .before .before .before .before .before .before .pre .0 .0
+
+show-requires-3 : tie.Need-show-requires-3
+show-requires-3 c κs = tt
+
+show-ceiling-requires : tie.Need-show-ceiling-requires
+show-ceiling-requires c κs =
+    let k = c .before .before .before .before .before .before .before .before .before .before .before .before .before .before .before .before .before .before .before .before .before .before .before .before .before .before .before .before .before .before .before .before .before .before .before .before .before .before .before .before .before .before .before .before .before .before .before .before .before .before .before .before .before .build in
+    let d = k .ensures .done (c .before .before .before .before .before .before .before .before .before .before .before .before .before .before .before .before .before .before .before .before .before .before .before .before .before .before .before .before .before .before .before .before .before .before .before .before .before .before .before .before .if1 .left) in
+    let s = table (k .last .1 .0) (k .last .1 .1 .0) (k .last .1 .1 .1 .0) (k .last .1 .1 .1 .1 .0) (k .last .1 .1 .1 .1 .1 .0) (k .result .count) in
+    (c .before .before .before .before .before .before .before .before .before .before .before .before .before .before .before .before .before .before .before .before .before .before .before .before .before .before .before .before .before .before .before .before .before .before .before .before .before .before .before .before .before .before .before .before .before .before .before .before .before .before .before .before .before .before .before .before .before .before .before .before .before .before .before .before .before .before .before .before .before .before .pre .0 .0, record { values = store-bare s (d .store); below = d .within; means = d .means })
+
 same-length-13 : tie.Need-same-length-13
-same-length-13 c = built-3 c .build .kept .1 .0
+same-length-13 c = built-3 (shown-3 c) .build .kept .1 .0
 
 same-length-14 : tie.Need-same-length-14
-same-length-14 c = built-3 c .build .kept .1 .1 .0
+same-length-14 c = built-3 (shown-3 c) .build .kept .1 .1 .0
 
 same-length-15 : tie.Need-same-length-15
-same-length-15 c = built-3 c .build .kept .1 .1 .1 .0
+same-length-15 c = built-3 (shown-3 c) .build .kept .1 .1 .1 .0
 
 same-length-16 : tie.Need-same-length-16
 same-length-16 c = shown-3 c .within-sets .kept .0
@@ -121,16 +137,16 @@ same-length-18 : tie.Need-same-length-18
 same-length-18 c = shown-3 c .within-sets .kept .1 .1 .0
 
 same-length-19 : tie.Need-same-length-19
-same-length-19 c = shown-3 c .within-sets .kept .1 .1 .1 .0 ∙ built-3 c .build .kept .1 .1 .1 .1 .0
+same-length-19 c = shown-3 c .within-sets .kept .1 .1 .1 .0 ∙ built-3 (shown-3 c) .build .kept .1 .1 .1 .1 .0
 
 same-length-20 : tie.Need-same-length-20
-same-length-20 c = shown-3 c .within-sets .kept .1 .1 .1 .1 .0 ∙ built-3 c .build .kept .1 .1 .1 .1 .1 .0
+same-length-20 c = shown-3 c .within-sets .kept .1 .1 .1 .1 .0 ∙ built-3 (shown-3 c) .build .kept .1 .1 .1 .1 .1 .0
 
 same-length-21 : tie.Need-same-length-21
-same-length-21 c = shown-3 c .within-sets .kept .1 .1 .1 .1 .1 .0 ∙ built-3 c .build .kept .1 .1 .1 .1 .1 .1 .0
+same-length-21 c = last-3 c .show-ceiling .kept .1 .1 .1 .1 .0 ∙ shown-3 c .within-sets .kept .1 .1 .1 .1 .1 .0 ∙ built-3 (shown-3 c) .build .kept .1 .1 .1 .1 .1 .1 .0
 
 returns-3 : tie.Need-returns-3
 returns-3 c = tt
 
 pub run-spec : {M : Type 1} → statement M
-run-spec = tie.close (tie.spec build-requires same-length same-length-2 same-length-3 same-length-4 same-length-5 same-length-6 returns same-length-7 same-length-8 same-length-9 same-length-10 same-length-11 same-length-12 returns-2 bits-requires show-requires show-fit-requires sub-show-fit show-fit-requires-2 checksum-requires show-requires-2 within-sets-requires same-length-13 same-length-14 same-length-15 same-length-16 same-length-17 same-length-18 same-length-19 same-length-20 same-length-21 returns-3)
+run-spec = tie.close (tie.spec build-requires same-length same-length-2 same-length-3 same-length-4 same-length-5 same-length-6 returns same-length-7 same-length-8 same-length-9 same-length-10 same-length-11 same-length-12 returns-2 bits-requires show-requires show-fit-requires sub-show-fit show-fit-requires-2 checksum-requires show-requires-2 within-sets-requires permitted-requires show-requires-3 show-ceiling-requires same-length-13 same-length-14 same-length-15 same-length-16 same-length-17 same-length-18 same-length-19 same-length-20 same-length-21 returns-3)
