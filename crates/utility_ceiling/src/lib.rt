@@ -163,12 +163,12 @@ fn greatest_within(
     )
 }
 
-// How much of a memo of this length is used: more for more entries, so that a small diagram clears little.
+// How much of a memo of this length is used: a slot for each entry, so that a small diagram clears little.
 fn memo_part(length: usize, ucount: usize) -> usize
     requires { ⌜ ucount ≤ 1048576 ⌝ }
     ensures { λ r. ⌜ r ≤ length ⌝ }
 {
-    let n = SHORTEST_MEMO + 64 * ucount;
+    let n = SHORTEST_MEMO + 4 * ucount;
     if length < n {
         return length;
     }
