@@ -1,7 +1,7 @@
 -- A task with another bound: applicability, cost and utility are the same, and a lower bound has the same best plan if that plan attains a
 -- utility that no applicable sequence exceeds.
 use Prim.Native.Nat.{ℕ, _+_, _≤_, _<_}
-use mathlib.Core.Path.{_≡_, refl, sym, ap, _∙_}
+use mathlib.Core.Path.{_≡_, refl, ap}
 use mathlib.Core.List.{List, [], _∷_}
 use mathlib.Core.Logic.{_⊎_, inl, inr}
 use native.Mathlib.Decide.{decLe}

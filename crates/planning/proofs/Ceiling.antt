@@ -1,8 +1,7 @@
 -- The ceiling is the utility of a state with permitted values, and no such state, so no applicable sequence, has more.
 use Prim.Native.Nat.{ℕ, zero, suc, _≤_, _<_, max}
-use mathlib.Core.Path.{_≡_, refl, sym, _∙_}
+use mathlib.Core.Path.{_≡_, refl, _∙_}
 use mathlib.Core.List.{List, [], _∷_}
-use mathlib.Core.Logic.{_⊎_, inl, inr}
 use native.Mathlib.Decide.{ℕ-discrete, decLe}
 use native.Mathlib.Omega.{arith}
 use lib.Dec.{T}
