@@ -13,7 +13,6 @@ use Rattle.planning.specs.Coding.{code}
 use Rattle.planning.specs.Best.{Place}
 use Rattle.planning.specs.Ceiling.{Due}
 use Rattle.planning.specs.Pairs.{stride, pairCost, pairSteps}
-use Rattle.search_theory.specs.Stop.{pairTask}
 use Rattle.planning.specs.Good.{Good}
 use Rattle.planning.proofs.Connectives.{T-true}
 use Rattle.planning.proofs.Guards.{pick-yes, pick-no}
@@ -21,6 +20,7 @@ use Rattle.planning.proofs.Pairs.{place-number, place-is, place-unique}
 use Rattle.diagrams.specs.Tree.{Tree, trees, member}
 use Rattle.search_theory.specs.Bits.{bitTask}
 use Rattle.search_theory.specs.Levels.{level}
+use Rattle.search_theory.specs.Stop.{pairTask}
 use Rattle.search_theory.specs.Pairs.{pairs}
 use Rattle.search_theory.proofs.PairDemands.{pairs-place, place-listed, listed-made}
 use Rattle.search_theory.proofs.MadePairs.{place-made, made-due}

@@ -9,11 +9,11 @@ use Rattle.planning.specs.Coding.{bits}
 use Rattle.planning.specs.Best.{Place}
 use Rattle.planning.specs.Ceiling.{Due}
 use Rattle.planning.specs.Pairs.{pairCost, pairSteps}
-use Rattle.search_theory.specs.Stop.{pairTask}
 use Rattle.lent_lists.specs.Lists.{listsWrong, pairsWrong, listed}
 use Rattle.diagrams.specs.Tree.{named, trees}
 use Rattle.search_theory.specs.Bits.{bitTask}
 use Rattle.search_theory.specs.Levels.{level}
+use Rattle.search_theory.specs.Stop.{pairTask}
 use Rattle.search_theory.specs.Pairs.{pairs}
 use Rattle.question.specs.declared.Answered.{Answered}
 use Rattle.question.specs.declared.Answered.the-variants.{Refused, Reached, NotReached}

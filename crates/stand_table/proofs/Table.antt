@@ -9,11 +9,11 @@ use lib.ListN.{length, replicate}
 use Rattle.planning.specs.Connectives.{pick, _or_}
 use Rattle.planning.specs.Model.{Task}
 use Rattle.planning.specs.Best.{Best}
-use Rattle.search_theory.specs.Stop.{pairTask}
 use Rattle.planning.proofs.Cases.{plan-rows}
 use Rattle.task.specs.Check.{checkOf}
 use Rattle.task.specs.Decode.{taskOf}
 use Rattle.lent_lists.specs.Lists.{listsWrong, pairsWrong}
+use Rattle.search_theory.specs.Stop.{pairTask}
 use Rattle.search_theory.specs.Plan.{planOf}
 use Rattle.search_theory.proofs.Table as sets
 use Rattle.task.specs.Cases.{header, operator, fileP, fileQ, fileOf}

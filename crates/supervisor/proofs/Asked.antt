@@ -9,7 +9,6 @@ use native.Mathlib.Omega.{arith}
 use lib.ListN.{length}
 use Rattle.planning.specs.Best.{Place}
 use Rattle.planning.specs.Ceiling.{Due}
-use Rattle.search_theory.specs.Stop.{pairTask}
 use Rattle.task.specs.Decode.{taskOf}
 use Rattle.lent_lists.specs.Lists.{listsWrong, pairsWrong}
 use Rattle.lent_lists.proofs.Passing.{or-neither}
@@ -19,6 +18,7 @@ use Rattle.search_answer.specs.Lent.{Lent}
 use Rattle.search_answer.specs.Search.{listingOf, anyWrong}
 use Rattle.search.specs.Leaves.{Searches}
 use Rattle.search.proofs.Demands.{PassedTests, passed, search-count}
+use Rattle.search_theory.specs.Stop.{pairTask}
 use Rattle.search_theory.specs.Made.{nodeCount}
 use Rattle.question.specs.declared.Answered.{Answered}
 use Rattle.question.specs.declared.Answered.the-variants.{Reached, NotReached}

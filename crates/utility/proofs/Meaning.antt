@@ -1,18 +1,20 @@
 -- The last stage is the diagram of the utility of lists of bits; each stage is the one before with a term's cube added. Assumes nothing.
 use Prim.Native.Nat.{ℕ, _+_, _/_, _≤_}
-use mathlib.Core.Path.{_≡_, _∙_}
+use mathlib.Core.Path.{_≡_, refl, _∙_}
 use mathlib.Core.Bool.{Bool, true, false}
 use mathlib.Core.List.{List, [], _∷_}
 use native.Mathlib.Omega.{arith}
 use native.Mathlib.Nat.{div-one}
 use Rattle.planning.specs.Connectives.{pick}
-use Rattle.planning.specs.Model.{Term, Task}
+use Rattle.planning.specs.Model.{Term, Task, withBound}
+use Rattle.planning.specs.Pairs.{byPairs}
 use Rattle.planning.specs.Coding.{bits, offset, fits, fitsWords, factsLits, careWord, valueWord, Facts, Rising}
 use Rattle.planning.proofs.Facts.{facts-rising}
 use Rattle.planning.proofs.Cubes.{fits-words}
 use Rattle.diagrams.specs.Tree.{Tree, none, valueEnd, diagram}
 use Rattle.diagrams.proofs.Diagrams.{diagram-same}
 use Rattle.search_theory.specs.Bits.{bitUtility, reward}
+use Rattle.search_theory.specs.Stop.{pairTask}
 use Rattle.utility.specs.Adding.{addT}
 use Rattle.utility.specs.Stages.{plusTerm, stagesFrom, stages, utilityTree}
 use Rattle.utility.proofs.Adds.{add-diagram}
@@ -33,6 +35,11 @@ stages-last ds (x ∷ xs) f t =
 pub last-stage : (t : Task) → lastOf none (stages t) ≡ utilityTree t
 unfolding stages utilityTree reward
 last-stage t = stages-last (t .sizes) (t .terms) (λ σ. 0) none ∙ diagram-same valueEnd (bits (t .sizes)) 0 (λ σ. 0 + bitUtility (t .sizes) (t .terms) σ) (reward t) (λ σ _. omega arith)
+
+-- the task that is searched has the task's
+pub same-utility : (t : Task) → utilityTree (pairTask t) ≡ utilityTree t
+unfolding utilityTree pairTask withBound byPairs reward
+same-utility t = refl
 
 pub at-most : (b : Bool) (w : ℕ) → pick b w 0 ≤ w
 unfolding pick
