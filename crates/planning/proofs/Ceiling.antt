@@ -5,12 +5,11 @@ use mathlib.Core.List.{List, [], _∷_}
 use native.Mathlib.Decide.{ℕ-discrete, decLe}
 use native.Mathlib.Omega.{arith}
 use lib.Dec.{T}
-use Rattle.planning.specs.Model.{Task, stateUtility, canApply, next, applicable, end, operatorAt, utility}
+use Rattle.planning.specs.Model.{Task, stateUtility, canApply, next, applicable, end, utility}
 use Rattle.planning.specs.Coding.{Valid}
 use Rattle.planning.specs.Ceiling.{greatestBelow, greatestOver, ceiling, Greatest}
 use Rattle.planning.specs.Good.{Good}
-use Rattle.planning.proofs.Facts.{valid-apply}
-use Rattle.planning.proofs.Moves.{can-below}
+use Rattle.planning.proofs.Moves.{next-valid}
 use Rattle.planning.proofs.Connectives.{T-and}
 
 -- ---- the greatest of some numbers
@@ -75,11 +74,11 @@ module _ (t : Task) where
 
     -- an applicable sequence ends in a state with permitted values
     end-valid : (s p : List ℕ) → Valid (t .sizes) s → T (applicable t s p) → Valid (t .sizes) (end t s p)
-    unfolding applicable end next
+    unfolding applicable end
     end-valid s [] v a = v
     end-valid s (o ∷ p) v a =
         let b = T-and (canApply t o s) (applicable t (next t o s) p) .0 a in
-        end-valid (next t o s) p (valid-apply (t .sizes) s 0 (operatorAt (t .operators) o .eff) v (𝓖 .effs o (can-below t o s (b .0)))) (b .1)
+        end-valid (next t o s) p (next-valid t 𝓖 o s v (b .0)) (b .1)
 
     -- so none has more utility
     pub utility-ceiling : (p : List ℕ) → T (applicable t (t .start) p) → utility t p ≤ ceiling t

@@ -9,7 +9,6 @@ use lib.ListN.{length}
 use Rattle.planning.specs.Connectives.{pick}
 use Rattle.planning.specs.Coding.{bin, number}
 use Rattle.planning.proofs.Words.{bit-le, bit-eqb}
-use Rattle.planning.proofs.Values.{length-bin, bin-inj}
 
 -- the bits before weigh 2 to the number of those behind
 number-after : (x : ℕ) (τ : List Bool) → number x τ ≡ x * 2 ^ length τ + number 0 τ
@@ -47,9 +46,3 @@ unfolding bin
 bin-number w τ e =
     let f : length τ + 0 ≡ w = omega arith in
     (rw f at (bin-more 0 0 τ [])) ∙ append-nil τ
-
--- the number of the bits of a value
-pub number-bin : (w x : ℕ) → x < 2 ^ w → number 0 (bin w x []) ≡ x
-number-bin w x h =
-    let l : length (bin w x []) ≡ w = length-bin w x [] ∙ omega arith in
-    bin-inj w (number 0 (bin w x [])) x (rw l at (number-small (bin w x []))) h (bin-number w (bin w x []) l)

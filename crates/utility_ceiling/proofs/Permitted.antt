@@ -16,7 +16,7 @@ use Rattle.planning.specs.Good.{Good}
 use Rattle.planning.specs.Ceiling.{ceiling}
 use Rattle.planning.proofs.Connectives.{T-and}
 use Rattle.planning.proofs.Widths.{width-fits}
-use Rattle.planning.proofs.Values.{length-one, length-code}
+use Rattle.planning.proofs.Values.{length-one, number-bin, length-code}
 use Rattle.planning.proofs.Ceiling.{ceiling-above, ceiling-attained}
 use Rattle.diagrams.specs.Tree.{endT, diagram}
 use Rattle.search_theory.specs.Bits.{reward}
@@ -27,18 +27,18 @@ use Rattle.utility.specs.Within.{mostT, asNumber}
 use Rattle.utility.specs.Stages.{utilityTree}
 use Rattle.utility.proofs.Within.{most-diagram}
 use Rattle.utility_ceiling.specs.Permitted.{below, permitted}
-use Rattle.utility_ceiling.proofs.Numbers.{bin-number, number-bin}
+use Rattle.utility_ceiling.proofs.Numbers.{bin-number}
 
 -- the bits of a state with permitted values are permitted
 pub permitted-code : (ds s : List ℕ) → Valid ds s → T (permitted ds (code ds s))
-unfolding permitted below code
+unfolding permitted below code number
 permitted-code [] [] ok = tt
 permitted-code [] (x ∷ s) ok = absurd ok
 permitted-code (d ∷ ds) [] ok = absurd ok
 permitted-code (d ∷ ds) (x ∷ s) ok =
     let front : take (width d) (bin (width d) x [] ++ code ds s) ≡ bin (width d) x [] = take-at (bin (width d) x []) (code ds s) (width d) (length-one d x) in
     let rest : drop (width d) (bin (width d) x [] ++ code ds s) ≡ code ds s = drop-at (bin (width d) x []) (code ds s) (width d) (length-one d x) in
-    let n : number 0 (bin (width d) x []) ≡ x = number-bin (width d) x (omega (arith, width-fits d, ok .0)) in
+    let n : number 0 (bin (width d) x []) ≡ x = number-bin (width d) x [] (omega (arith, width-fits d, ok .0)) in
     rw (front, rest, n, lt-ltb x d (ok .0)) (T-and true (permitted ds (code ds s)) .1 (tt, permitted-code ds s (ok .1)))
 
 -- permitted bits number a state with permitted values, and are its bits
