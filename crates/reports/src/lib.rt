@@ -1,9 +1,11 @@
-// The answers of check, writer, walk, question and search as callers in C get them: the documents' number and values, a state's place, or a
-// listing's figures.
+// The answers of check, writer, walk, question, search and the engine that lists states as callers in C get them: the documents' number and
+// values, a state's place, or the figures.
 use question::Answered;
 use search_answer::Listing;
 use search_answer::Searched;
 use shift_time::time_of;
+use states_answer::Enumerated;
+use states_answer::Summary;
 use task_check::Checked;
 use walk::Walked;
 use walk::fault_number;
@@ -14,8 +16,10 @@ ghost use Rattle.writer.specs.Answers.{numbers as writeNumbers};
 ghost use Rattle.walk.specs.Answers.{numbers as walkNumbers};
 ghost use Rattle.question.specs.Answers.{numbers as questionNumbers};
 ghost use Rattle.search_answer.specs.Answers.{noFigures};
+ghost use Rattle.states_answer.specs.Answers.{noFigures as noSummary};
 ghost use Rattle.reports.specs.Reported.{reported, placed, checkNumbers};
 ghost use Rattle.reports.specs.Totals.{totalsWith, totalsOf};
+ghost use Rattle.reports.specs.Tallies.{tallyWith, tallyOf};
 
 // An answer as C gets it: the documents' number, and two values.
 #[repr(C)]
@@ -184,5 +188,64 @@ pub fn of_search(told: Searched) -> Totals
             totals_with(number as u64, place as u64, no_figures())
         }
         Searched::Found(found) => totals_with(0, 0, found),
+    }
+}
+
+// What the engine that lists states reports: a refusal's number and value, or 0, 0 and the figures.
+#[repr(C)]
+pub struct Tally {
+    pub number: u64,
+    pub value: u64,
+    pub utility: u64,
+    pub cost: u64,
+    pub bound: u64,
+    pub minutes: u64,
+    pub units: u64,
+    pub unused: u64,
+    pub states: u64,
+    pub steps: u64,
+}
+
+// A number, a value, and the figures with their time.
+fn tally_with(number: u64, value: u64, found: Summary) -> Tally
+    ensures { λ r. ⌜ r ≡ tallyWith number value found ⌝ }
+{
+    let time = time_of(found.cost, found.bound);
+    Tally {
+        number,
+        value,
+        utility: found.utility as u64,
+        cost: found.cost as u64,
+        bound: found.bound as u64,
+        minutes: time.minutes as u64,
+        units: time.units as u64,
+        unused: time.unused as u64,
+        states: found.states as u64,
+        steps: found.steps as u64,
+    }
+}
+
+// The figures after a refusal.
+fn no_summary() -> Summary
+    ensures { λ r. ⌜ r ≡ noSummary ⌝ }
+{
+    Summary {
+        utility: 0,
+        cost: 0,
+        bound: 0,
+        states: 0,
+        steps: 0,
+    }
+}
+
+// The engine that lists states: the refusal's number and value, or 0, 0 and the figures.
+pub fn of_states(told: Enumerated) -> Tally
+    ensures { λ r. ⌜ r ≡ tallyOf told ⌝ }
+{
+    match told {
+        Enumerated::Refused { number, place } => {
+            tally_with(number as u64, place as u64, no_summary())
+        }
+        Enumerated::Listed(found) => tally_with(0, 0, found),
     }
 }

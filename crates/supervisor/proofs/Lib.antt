@@ -1,3 +1,4 @@
 pub mod Reports
 pub mod Asked
 pub mod Timed
+pub mod Agree

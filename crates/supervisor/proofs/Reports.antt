@@ -10,14 +10,26 @@ use lib.ListN.{length}
 use Rattle.writer.specs.declared.Written.{Written}
 use Rattle.writer.specs.Write.{writeOf, leaves}
 use Rattle.writer.specs.Answers.{numbers as writeNumbers}
+use Rattle.states_answer.specs.declared.Enumerated.{Enumerated}
+use Rattle.states_answer.specs.Lent.{Lent as StateLists}
+use Rattle.states.specs.Leaves.{Enumerates}
+use Rattle.states.specs.Leaves.{Leaves as StatesLeave}
 use Rattle.reports.specs.Totals.{totalsOf}
-use Rattle.supervisor.specs.Reports.{Reports}
+use Rattle.reports.specs.Tallies.{tallyOf}
+use Rattle.reports.specs.declared.Tally.{Tally}
+use Rattle.supervisor.specs.Reports.{Reports, ReportsStates}
 use Rattle.reports.specs.declared.Totals.{Totals}
 
 pub search-is : (w : Searched) (f : List ℕ) (before after : Lent) (x : Totals) → Searches f before after w → x ≡ totalsOf w → Reports f before after x
 search-is w f before after x s r = record {
   answers = r ∙ ap totalsOf (s .answers);
   leaves = subst (λ (a : Searched). Leaves (taskOf f) a before after) (s .answers) (s .leaves);
+}
+
+pub states-is : (w : Enumerated) (f : List ℕ) (before after : StateLists) (x : Tally) → Enumerates f before after w → x ≡ tallyOf w → ReportsStates f before after x
+states-is w f before after x s r = record {
+  answers = r ∙ ap tallyOf (s .answers);
+  leaves = subst (λ (a : Enumerated). StatesLeave (taskOf f) a before after) (s .answers) (s .leaves);
 }
 
 pub write-is : (w : Written) (f out out′ : List ℕ) (x : ℕ × ℕ × ℕ) → (w ≡ writeOf f (length out)) × (out′ ≡ leaves w f out) → x ≡ writeNumbers w

@@ -1,14 +1,17 @@
-// The file check, the writer, the walk, the search and the question for callers in C; include/laurelsnap.h describes them there.
+// The file check, the writer, the walk, the search, the question and the engine that lists states for callers in C; include/laurelsnap.h describes them there.
 use question::question;
 use reports::Place;
 use reports::Report;
+use reports::Tally;
 use reports::Totals;
 use reports::of_check;
 use reports::of_question;
 use reports::of_search;
+use reports::of_states;
 use reports::of_walk;
 use reports::of_write;
 use search::search;
+use states::list_states;
 use task_check::check;
 use walk::walk;
 use writer::write;
@@ -20,10 +23,11 @@ ghost use Rattle.writer.specs.Answers.{numbers as writeNumbers};
 ghost use Rattle.walk.specs.Walk.{walkOf};
 ghost use Rattle.walk.specs.Answers.{numbers as walkNumbers};
 ghost use Rattle.search_answer.specs.Lent.{lent};
+ghost use Rattle.states_answer.specs.Lent.{lent as stateLists};
 ghost use Rattle.question.specs.Question.{questionOf};
 ghost use Rattle.question.specs.Answers.{numbers as questionNumbers};
 ghost use Rattle.reports.specs.Reported.{reported, placed, checkNumbers};
-ghost use Rattle.supervisor.specs.Reports.{Reports};
+ghost use Rattle.supervisor.specs.Reports.{Reports, ReportsStates};
 
 // The file check: 0, or the refusal's number and value.
 #[no_mangle]
@@ -132,4 +136,23 @@ pub extern "C" fn laurelsnap_question(
         count,
         pairs,
     ))
+}
+
+// The engine that lists states: every state within the bound with its place, and the best plan.
+#[no_mangle]
+pub extern "C" fn laurelsnap_states(
+    file: &[u8],
+    states: &mut [u64],
+    costs: &mut [u32],
+    steps: &mut [u32],
+    heads: &mut [u32],
+    links: &mut [u32],
+    plan: &mut [u16],
+) -> Tally
+    ensures { λ r.
+        let before = stateLists (now (states .entry)) (now (costs .entry)) (now (steps .entry)) (now (heads .entry)) (now (links .entry)) (now (plan .entry)) in
+        let after = stateLists (now (states .exit)) (now (costs .exit)) (now (steps .exit)) (now (heads .exit)) (now (links .exit)) (now (plan .exit)) in
+        ⌜ ReportsStates (now (file .entry)) before after r ⌝ }
+{
+    of_states(list_states(file, states, costs, steps, heads, links, plan))
 }

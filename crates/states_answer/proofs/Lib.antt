@@ -1,0 +1,2 @@
+-- The stand cases of the engine that lists states.
+pub mod Table

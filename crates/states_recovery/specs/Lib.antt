@@ -1,0 +1,2 @@
+-- The best plan, read off the marked list of states.
+pub mod Recovery

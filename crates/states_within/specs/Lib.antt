@@ -1,0 +1,2 @@
+-- The states within the bound.
+pub mod Within

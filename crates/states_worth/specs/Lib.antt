@@ -1,0 +1,2 @@
+-- The utility of states that are words.
+pub mod Worth
