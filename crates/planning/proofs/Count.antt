@@ -1,5 +1,5 @@
--- Counting lists of bits: different lists of n bits are at most 2 ^ n.
-use Prim.Native.Nat.{ℕ, zero, suc, _^_, _≤_}
+-- Counting: different members of a list are no more than its members; different lists of n bits are at most 2 ^ n.
+use Prim.Native.Nat.{ℕ, zero, suc, _^_, _≤_, _<_}
 use mathlib.Core.Path.{_≡_, refl, sym, ap, _∙_}
 use mathlib.Core.Bool.{Bool, true, false}
 use mathlib.Core.List.{List, [], _∷_, _++_, map, List·Memᴰ, List·Memᴰ·head, List·Memᴰ·tail, List·Memᴰ·cases-cons, List·Memᴰ·not-nil, Memᴰ·append-left, Memᴰ·append-right}
@@ -39,7 +39,7 @@ module _ {A : Type 0} where
           by y (inr h) = on y (w .keeps y h)
 
   -- different members of a list are no more than its members
-  sub-length : (xs ys : List A) → NoDup xs → ((y : A) → List·Memᴰ y xs → List·Memᴰ y ys) → length xs ≤ length ys
+  pub sub-length : (xs ys : List A) → NoDup xs → ((y : A) → List·Memᴰ y xs → List·Memᴰ y ys) → length xs ≤ length ys
   sub-length [] ys d s = omega arith
   sub-length (x ∷ xs) ys d s =
       let w = without (s x (List·Memᴰ·head refl)) in
@@ -48,6 +48,14 @@ module _ {A : Type 0} where
       by : (w : Without x ys) (y : A) → List·Memᴰ y xs → (y ≡ x) ⊎ List·Memᴰ y (w .rest) → List·Memᴰ y (w .rest)
       by w y m (inl e) = absurd (d .0 (rw e at m))
       by w y m (inr h) = h
+
+  -- with another member z of the list they are fewer
+  pub sub-longer : (xs ys : List A) (z : A) → NoDup xs → ((y : A) → List·Memᴰ y xs → List·Memᴰ y ys) → List·Memᴰ z ys → (List·Memᴰ z xs → ⊥) → length xs < length ys
+  sub-longer xs ys z d s m n = omega (arith, sub-length (z ∷ xs) ys (n, d) (λ y h. by y (List·Memᴰ·cases-cons h)))
+    where
+      by : (y : A) → (y ≡ z) ⊎ List·Memᴰ y xs → List·Memᴰ y ys
+      by y (inl e) = rw e m
+      by y (inr h) = s y h
 
 -- all lists of n bits
 unfoldable every : ℕ → List (List Bool)

@@ -1,3 +1,3 @@
 -- Laws of the states within the bound.
-pub mod Counting
 pub mod Within
+pub mod Placed

@@ -1,7 +1,6 @@
 -- The utility of a state that is a word, from a table of the terms: three words for each term, its weight, and care and value of its facts.
 use Prim.Native.Nat.{ℕ, zero, suc, _+_, _*_, _≤_, _<_}
 use mathlib.Core.Path.{_≡_}
-use mathlib.Core.Bool.{Bool}
 use mathlib.Core.List.{List}
 use lib.ListN.{length, getD}
 use Rattle.planning.specs.Connectives.{pick}

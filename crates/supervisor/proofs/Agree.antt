@@ -3,8 +3,7 @@ use Prim.Native.Nat.{ℕ}
 use mathlib.Core.Path.{_≡_, refl, sym, ap, _∙_}
 use mathlib.Core.List.{List, _++_}
 use lib.ListN.{length, drop}
-use Rattle.planning.specs.Model.{Task, cost, utility}
-use Rattle.planning.specs.Best.{Best}
+use Rattle.planning.specs.Model.{cost, utility}
 use Rattle.planning.proofs.Theorems.{best-unique}
 use Rattle.task.specs.Decode.{taskOf}
 use Rattle.search_answer.specs.declared.Listing.{Listing}
