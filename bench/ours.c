@@ -23,7 +23,7 @@ int main(int argc, char **argv) {
         printf("refused %lu %lu\n", (unsigned long)found.number, (unsigned long)found.value);
         return 0;
     }
-    printf("entries %lu ", (unsigned long)found.entries);
-    report(found.utility, found.ceiling, found.cost, found.pairs, found.nodes, time, lists.plan.at, found.steps);
+    printf("ceiling %lu entries %lu ", (unsigned long)found.ceiling, (unsigned long)found.entries);
+    report(found.utility, found.cost, found.pairs, found.nodes, time, lists.plan.at, found.steps);
     return 0;
 }

@@ -103,12 +103,11 @@ static inline double seconds(void) {
     return now.tv_sec + now.tv_nsec * 1e-9;
 }
 
-/* The line that every planner prints: what it found, the ceiling, the non-empty pairs, how many nodes or states it made, how long the search
-   alone took, and the plan. */
-static inline void report(unsigned long utility, unsigned long ceiling, unsigned long cost, unsigned long pairs, unsigned long made,
-                          double time, const uint16_t *plan, unsigned steps) {
-    printf("utility %lu ceiling %lu cost %lu steps %u pairs %lu made %lu seconds %.6f plan", utility, ceiling, cost, steps, pairs, made,
-           time);
+/* The line that every planner prints: what it found, the non-empty pairs, how many nodes or states it made, how long the search alone took,
+   and the plan. What else a planner tells, such as the ceiling, it prints before, as a word and a number each. */
+static inline void report(unsigned long utility, unsigned long cost, unsigned long pairs, unsigned long made, double time,
+                          const uint16_t *plan, unsigned steps) {
+    printf("utility %lu cost %lu steps %u pairs %lu made %lu seconds %.6f plan", utility, cost, steps, pairs, made, time);
     for (unsigned k = 0; k < steps; k++) printf(" %u", plan[k]);
     printf("\n");
 }

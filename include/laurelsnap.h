@@ -1,6 +1,6 @@
 /*
- * Laurelsnap for C: the file check, the writer of canonical files, the walk of a given plan, the search for the best plan, and the
- * question where a state stands: what it costs at least, and in how many steps.
+ * Laurelsnap for C: the file check, the writer of canonical files, the walk of a given plan, the search for the best plan, the question
+ * where a state stands: what it costs at least, and in how many steps; and a second engine, which finds the same plan by listing states.
  *
  * Link with the static library that `rt staticlib supervisor` writes, target/staticlib/libsupervisor.a.
  *
@@ -20,14 +20,14 @@
  *     7, 9 and 10                  the record's number, 0
  *     17, 18 and 19                the step's number, 0
  *     any other refusal            0, 0
- *   The answers of a search (struct laurelsnap_found) and of a question (struct laurelsnap_place) have one value, the same as `first`
- *   above, and 0 for success; then what they report.
+ *   The answers of a search (struct laurelsnap_found), of a question (struct laurelsnap_place) and of the engine that lists states (struct
+ *   laurelsnap_listed) have one value, the same as `first` above, and 0 for success; then what they report.
  *   Records and steps are counted from 0. Only the first fault is told.
  *
  * What a refusal leaves as it was
  *     1 to 12, 16 to 22            every list, the working lists too
  *     13                           the lists of pairs, the node lists and the plan
- *     14, 15 and 23                the plan
+ *     14, 15, 23 and 24            the plan
  */
 #ifndef LAURELSNAP_H
 #define LAURELSNAP_H
@@ -46,7 +46,8 @@ struct laurelsnap_answer {
 };
 
 /* The refusals. The file check finds 1 to 10 in this order; the writer those and then 22, the walk those and 16 to 19, the question those,
-   12, 20 and 21, the search those, 12 and 13, then at each pair 14 before 23, and 15 last. There is no 11. */
+   12, 20 and 21, the search those, 12 and 13, then at each pair 14 before 23, and 15 last, the engine that lists states those, 12, 24 and
+   15. There is no 11. */
 enum laurelsnap_refusal {
     LAURELSNAP_OK = 0,
     LAURELSNAP_SHORT_FILE = 1,         /* file under 28 bytes */
@@ -59,7 +60,7 @@ enum laurelsnap_refusal {
     LAURELSNAP_BITS = 8,               /* the variables take more than 48 bits */
     LAURELSNAP_OPERATOR = 9,           /* an operator record against the rules */
     LAURELSNAP_TERM = 10,              /* a term record against the rules */
-    LAURELSNAP_LISTS = 12,             /* lists of pairs, node or utility lists of unequal lengths, or over 1,048,576 long */
+    LAURELSNAP_LISTS = 12,             /* lists of pairs, states, nodes or utility entries of unequal lengths, or over 1,048,576 long */
     LAURELSNAP_UTILITY_ENTRIES = 13,   /* the utility diagram has more entries than its lists */
     LAURELSNAP_NODES = 14,             /* the sets have more nodes than the node lists */
     LAURELSNAP_PLAN_LIST = 15,         /* the plan is longer than the plan list */
@@ -70,7 +71,8 @@ enum laurelsnap_refusal {
     LAURELSNAP_STATE = 20,             /* the questioned state has a wrong number of values, or one out of range */
     LAURELSNAP_NODE_LISTS = 21,        /* the questioned lists are no diagrams of the task, or shorter than they are said to be */
     LAURELSNAP_OUTPUT_LIST = 22,       /* the output list is shorter than the file to be written */
-    LAURELSNAP_PAIRS = 23              /* more non-empty pairs are made than there are entries in their lists */
+    LAURELSNAP_PAIRS = 23,             /* more non-empty pairs are made than there are entries in their lists */
+    LAURELSNAP_STATES = 24             /* the states within the bound outnumber their lists */
 };
 
 /* The file check of the `length` bytes at `file`. */
@@ -253,6 +255,111 @@ static inline struct laurelsnap_place laurelsnap_question_in(const uint8_t *file
         lists->steps.length, lists->sets.at, lists->sets.length, lists->wanted.at, lists->wanted.length, lists->bit.at,
         lists->bit.length, lists->low.at, lists->low.length, lists->high.at, lists->high.length, (size_t)found->nodes,
         (size_t)found->pairs);
+}
+
+/*
+ * The engine that lists states, without diagrams. Both engines find the same best plan, with the same utility, cost and steps, wherever both
+ * accept. Which to use when:
+ *
+ *                            laurelsnap_search                              laurelsnap_states
+ *   keeps                    sets of states as diagrams, for each pair      every single state, with its place
+ *   use it for               many states in few nodes                       few states: 1,048,576 at most
+ *   room                     68 bytes a node, 12 a utility entry,           24 bytes a state
+ *                            16 a pair
+ *   ceiling                  reported; nothing is made past it              not reported; everything up to the bound is made
+ *   where a state stands     laurelsnap_question, over its lists            in its entry; without one it is not reached within the bound
+ */
+
+/* What the engine that lists states reports: number and value as above, then the figures that a search reports, and how many states are
+   listed, all 0 after a refusal. */
+struct laurelsnap_listed {
+    uint64_t number;
+    uint64_t value;
+    uint64_t utility;
+    uint64_t cost;    /* in units of ten seconds */
+    uint64_t bound;   /* in units */
+    uint64_t minutes; /* the cost in whole minutes, */
+    uint64_t units;   /* and the units left over, 0 to 5: 6 * minutes + units == cost */
+    uint64_t unused;  /* units: unused + cost == bound */
+    uint64_t states;
+    uint64_t steps;
+};
+
+/*
+ * The best plan, as the search finds it, from a list of all states that can be reached within the bound (refusals 1 to 12, 24 and 15).
+ * Every pair of cost and steps up to the bound is made, past the ceiling too. Lists are lent as pointers and lengths:
+ *   states, costs, steps         an entry for each of those states, once and in any order: the state, and its place, which is its least cost
+ *                                and the fewest steps at that cost. A state is a number: a variable takes the fewest bits that can number
+ *                                its values, bits follow the file's variables, high bit first, and bit k, from 0 on, is worth 2^k
+ *   heads, links                 working lists of any length, which decide the time alone: give each as many numbers as there are entries
+ *   plan                         16 bits a step
+ * Entries past the states that are listed, and past the plan, stay as they were. laurelsnap_share_states makes all lists from one block of
+ * memory.
+ */
+struct laurelsnap_listed laurelsnap_states(
+    const uint8_t *file, size_t file_length, uint64_t *states, size_t states_length, uint32_t *costs, size_t costs_length,
+    uint32_t *steps, size_t steps_length, uint32_t *heads, size_t heads_length, uint32_t *links, size_t links_length, uint16_t *plan,
+    size_t plan_length);
+
+/*
+ * All lists of this engine in one struct, and one block of memory shared out among them:
+ *
+ *     struct laurelsnap_state_room room = { .states = 1048576, .steps = 1048575 };
+ *     struct laurelsnap_state_lists lists = laurelsnap_share_states(room, malloc(laurelsnap_state_bytes(room)));
+ *     struct laurelsnap_listed listed = laurelsnap_states_in(file, length, &lists);
+ *
+ * The plan is then lists.plan.at[0] to lists.plan.at[listed.steps - 1], and the states are lists.states.at[0] to
+ * lists.states.at[listed.states - 1], with lists.costs and lists.steps beside them.
+ */
+
+/* A list of states. */
+struct laurelsnap_words {
+    uint64_t *at;
+    size_t length;
+};
+
+/* What the lists have room for: states, and steps of the plan, which has fewer than there are states. */
+struct laurelsnap_state_room {
+    size_t states;
+    size_t steps;
+};
+
+struct laurelsnap_state_lists {
+    struct laurelsnap_words states;
+    struct laurelsnap_list costs, steps;
+    struct laurelsnap_list heads, links;
+    struct laurelsnap_steps plan;
+};
+
+/* How many bytes the lists take. */
+static inline size_t laurelsnap_state_bytes(struct laurelsnap_state_room room)
+{
+    return (sizeof(uint64_t) + 4 * sizeof(uint32_t)) * room.states + sizeof(uint16_t) * room.steps;
+}
+
+/* Shares out a block of laurelsnap_state_bytes(room) bytes, aligned as malloc does and not null. What it holds before does not matter. */
+static inline struct laurelsnap_state_lists laurelsnap_share_states(struct laurelsnap_state_room room, void *block)
+{
+    struct laurelsnap_state_lists lists;
+    lists.states.at = (uint64_t *)block;
+    lists.states.length = room.states;
+    uint32_t *rest = (uint32_t *)(void *)(lists.states.at + room.states);
+    lists.costs = laurelsnap_next(&rest, room.states);
+    lists.steps = laurelsnap_next(&rest, room.states);
+    lists.heads = laurelsnap_next(&rest, room.states);
+    lists.links = laurelsnap_next(&rest, room.states);
+    lists.plan.at = (uint16_t *)(void *)rest;
+    lists.plan.length = room.steps;
+    return lists;
+}
+
+/* The engine that lists states, with all lists in one struct. */
+static inline struct laurelsnap_listed laurelsnap_states_in(
+    const uint8_t *file, size_t file_length, const struct laurelsnap_state_lists *lists)
+{
+    return laurelsnap_states(file, file_length, lists->states.at, lists->states.length, lists->costs.at, lists->costs.length,
+        lists->steps.at, lists->steps.length, lists->heads.at, lists->heads.length, lists->links.at, lists->links.length, lists->plan.at,
+        lists->plan.length);
 }
 
 #ifdef __cplusplus

@@ -1,7 +1,8 @@
 /*
- * The library's calls on a stack of a given size: check, search, walk, question and writer, over a task of 48 bits with 256 operators and 256
- * terms, and over each file. Below the stack lie pages that can be neither read nor written, more of them than any call's arrays take, so a call
- * that needs more stack ends the program with a message. Prints how much of the stack each call has used.
+ * The library's calls on a stack of a given size: check, search, walk, question, writer and the engine that lists states, over a task of 48
+ * bits with 256 operators and 256 terms, and over each file. Below the stack lie pages that can be neither read nor written, more of them
+ * than any call's arrays take, so a call that needs more stack ends the program with a message. Prints how much of the stack each call has
+ * used.
  *
  * Usage: stack BYTES FILE...
  */
@@ -18,9 +19,9 @@
 
 enum { PAGE = 4096, GUARD = 1 << 20, MARK = 0xa5, MOST_BYTES = 16384, MOST_PAIRS = 1 << 17, ENTRIES = 1 << 20 };
 
-enum { CHECK, SEARCH, WALK, QUESTION, WRITE, CALLS };
+enum { CHECK, SEARCH, WALK, QUESTION, WRITE, STATES, CALLS };
 
-static const char *const names[CALLS] = { "check", "search", "walk", "question", "write" };
+static const char *const names[CALLS] = { "check", "search", "walk", "question", "write", "states" };
 static size_t used[CALLS];
 
 static const char *name;
@@ -35,6 +36,8 @@ static struct laurelsnap_lists lists;
 static struct laurelsnap_found found;
 static struct laurelsnap_answer answer;
 static struct laurelsnap_place place;
+static struct laurelsnap_state_lists state_lists;
+static struct laurelsnap_listed listed;
 
 static void fail(const char *what)
 {
@@ -66,8 +69,11 @@ static void run(void)
     case QUESTION:
         place = laurelsnap_question_in(file, length, state, variables, &lists, &found);
         break;
-    default:
+    case WRITE:
         answer = laurelsnap_write(file, length, out, sizeof out);
+        break;
+    default:
+        listed = laurelsnap_states_in(file, length, &state_lists);
     }
 }
 
@@ -102,11 +108,12 @@ static void put(size_t at, size_t bytes, size_t x)
         file[at + k] = (uint8_t)(x % 256);
 }
 
-/* A task with the most bits and records: variables of two and of four values in turn. An operator sets one or two of them, the first four for
-   nothing; half of the operators ask for a value before; a term is worth something where a variable, or two, have the value 1. */
-static void make_large(void)
+/* A task with this bound and the most bits and records: variables of two and of four values in turn. An operator sets one or two of them,
+   the first four for nothing; half of the operators ask for a value before; a term is worth something where a variable, or two, have the
+   value 1. */
+static void make_large(size_t bound)
 {
-    enum { VARIABLES = 32, RECORDS = 256, BOUND = 5, OPERATORS_AT = 28 + 2 * VARIABLES, TERMS_AT = OPERATORS_AT + 36 * RECORDS };
+    enum { VARIABLES = 32, RECORDS = 256, OPERATORS_AT = 28 + 2 * VARIABLES, TERMS_AT = OPERATORS_AT + 36 * RECORDS };
     name = "a task of 48 bits";
     length = TERMS_AT + 12 * RECORDS;
     memset(file, 0, sizeof file);
@@ -114,7 +121,7 @@ static void make_large(void)
     put(4, 2, VARIABLES);
     put(6, 2, RECORDS);
     put(8, 2, RECORDS);
-    put(10, 2, BOUND);
+    put(10, 2, bound);
     put(12, 4, 28);
     put(16, 4, OPERATORS_AT);
     put(20, 4, TERMS_AT);
@@ -152,6 +159,19 @@ static void read_file(void)
     fclose(in);
 }
 
+/* The plan that the engine which lists states finds must be the search's, if it has room for the states. */
+static void list_states(void)
+{
+    on_stack(STATES);
+    if (listed.number == LAURELSNAP_STATES)
+        return;
+    if (listed.number != 0)
+        fail("refused");
+    if (listed.utility != found.utility || listed.cost != found.cost || listed.steps != found.steps
+        || memcmp(state_lists.plan.at, lists.plan.at, sizeof *lists.plan.at * found.steps) != 0)
+        fail("another plan than the search's");
+}
+
 static void make_calls(void)
 {
     on_stack(CHECK);
@@ -178,6 +198,7 @@ static void make_calls(void)
         fail("refused");
     on_stack(WRITE);
     expect(28 + 2 * variables + 36 * le16(6) + 12 * le16(8), 0);
+    list_states();
 }
 
 int main(int argc, char **argv)
@@ -198,20 +219,26 @@ int main(int argc, char **argv)
     }
     stack = pages + GUARD;
     struct laurelsnap_room room = { .nodes = ENTRIES, .utility = ENTRIES, .pairs = MOST_PAIRS, .steps = MOST_PAIRS };
-    void *block = malloc(laurelsnap_bytes(room));
-    if (block == NULL) {
+    struct laurelsnap_state_room state_room = { .states = ENTRIES, .steps = MOST_PAIRS };
+    void *block = malloc(laurelsnap_bytes(room)), *state_block = malloc(laurelsnap_state_bytes(state_room));
+    if (block == NULL || state_block == NULL) {
         perror("stack");
         return EXIT_FAILURE;
     }
     lists = laurelsnap_share(room, block);
-    make_large();
+    state_lists = laurelsnap_share_states(state_room, state_block);
+    make_large(5);
     make_calls();
+    make_large(3); /* with which there are few enough states to list them */
+    make_calls();
+    if (listed.number != 0)
+        fail("refused");
     for (int i = 2; i < argc; i++) {
         name = argv[i];
         read_file();
         make_calls();
     }
-    printf("stack: %d tasks with %zu bytes of stack, of which", argc - 1, size);
+    printf("stack: %d tasks with %zu bytes of stack, of which", argc, size);
     for (call = 0; call < CALLS; call++)
         printf("%s %s used %zu", call == 0 ? "" : ",", names[call], used[call]);
     printf("\n");

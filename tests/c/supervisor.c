@@ -1,7 +1,8 @@
 /*
  * The static library as the bench supervisor calls it: the stand cases of the file check and the walk, searches in lists that are just long
- * enough, too short and of the greatest lengths, questions, searches that stop at the ceiling, a plan of thousands of free steps, cases of the
- * writer, then many made-up files and plans, compared with a plain check, walk and writer written here from the documents.
+ * enough, too short and of the greatest lengths, questions, searches that stop at the ceiling, a plan of thousands of free steps, states
+ * listed in lists of all these lengths, cases of the writer, then many made-up files and plans, compared with a plain check, walk and writer
+ * written here from the documents, and with each other where two engines answer.
  */
 #include "laurelsnap.h"
 
@@ -71,6 +72,8 @@ static int row_right(const Task *t, const uint8_t *row, size_t used, size_t plac
     return 1;
 }
 
+static unsigned bits_of(unsigned values) { return values <= 2 ? 1 : values <= 4 ? 2 : values <= 8 ? 3 : 4; }
+
 static int overlap(size_t a, size_t m, size_t b, size_t n) { return m > 0 && n > 0 && a < b + n && b < a + m; }
 
 static Answer plain_check(const uint8_t *file, size_t length, Task *t)
@@ -106,7 +109,7 @@ static Answer plain_check(const uint8_t *file, size_t length, Task *t)
         unsigned values = t->variable[2 * v];
         if (values < 2 || values > 16 || t->variable[2 * v + 1] >= values)
             return answer(7, v, 0);
-        bits += values <= 2 ? 1 : values <= 4 ? 2 : values <= 8 ? 3 : 4;
+        bits += bits_of(values);
     }
     if (bits > 48)
         return answer(8, 0, 0);
@@ -315,6 +318,16 @@ static void stand_cases(void)
     same("5,000 steps", laurelsnap_walk(file, length, zeros, sizeof zeros), 19, 4095, 0);
 }
 
+/* ---- random numbers */
+
+static uint64_t seed = 1;
+
+static size_t below(size_t n)
+{
+    seed = seed * 6364136223846793005u + 1442695040888963407u;
+    return (size_t)(seed >> 33) % n;
+}
+
 /* ---- searches */
 
 /* The lists of a search, two numbers longer than lists may be, and the lengths lent: lists of pairs, node lists, utility lists, plan. */
@@ -336,6 +349,48 @@ static struct laurelsnap_found found_with(struct lengths lent, int longer)
     return laurelsnap_search(file, length, lists[COSTS], l[COSTS], lists[STEPS], l[STEPS], lists[SETS], l[SETS], lists[WANTED], l[WANTED],
         lists[BIT], l[BIT], lists[LOW], l[LOW], lists[HIGH], l[HIGH], lists[UTILITY_BIT], l[UTILITY_BIT], lists[UTILITY_LOW],
         l[UTILITY_LOW], lists[UTILITY_HIGH], l[UTILITY_HIGH], working[0], 256, working[1], 256, working[2], 256, plan, lent.steps);
+}
+
+/* The lists of the engine that lists states, as long, the lengths lent, and the noise that stands at their fronts before each call. */
+static struct {
+    uint64_t states[LONGEST + 2];
+    uint32_t costs[LONGEST + 2], steps[LONGEST + 2], heads[LONGEST + 2], links[LONGEST + 2];
+} listing;
+
+struct state_lengths {
+    size_t states, costs, steps, heads, links, plan;
+};
+
+enum { FRONT = 6000 };
+static struct {
+    uint64_t states[FRONT];
+    uint32_t costs[FRONT], steps[FRONT], heads[FRONT], links[FRONT];
+    uint16_t plan[FRONT];
+} noise;
+
+static void make_noise(void)
+{
+    for (size_t k = 0; k < sizeof noise; k++)
+        ((uint8_t *)&noise)[k] = (uint8_t)below(256);
+}
+
+/* The lists for so many states and steps, the working lists as long as the header says. */
+static struct state_lengths room_for(size_t states, size_t steps)
+{
+    return (struct state_lengths) { states, states, states, states, states, steps };
+}
+
+/* The states of the file listed in lists of these lengths. */
+static struct laurelsnap_listed listed_with(struct state_lengths lent)
+{
+    memcpy(listing.states, noise.states, sizeof noise.states);
+    memcpy(listing.costs, noise.costs, sizeof noise.costs);
+    memcpy(listing.steps, noise.steps, sizeof noise.steps);
+    memcpy(listing.heads, noise.heads, sizeof noise.heads);
+    memcpy(listing.links, noise.links, sizeof noise.links);
+    memcpy(plan, noise.plan, sizeof noise.plan);
+    return laurelsnap_states(file, length, listing.states, lent.states, listing.costs, lent.costs, listing.steps, lent.steps,
+        listing.heads, lent.heads, listing.links, lent.links, plan, lent.plan);
 }
 
 /* P with the bound 1: number, pairs and steps, and the time 0 1 0, or nothing but zeros after a refusal. */
@@ -442,6 +497,9 @@ static void stops(const char *what, const size_t *weights, size_t bound, uint64_
         uint64_t made = x < pairs;
         stands(what, asked(&x, (struct lengths) { found.pairs, found.nodes, 0, 0 }, LISTS), 0, made, made * x, made * x);
     }
+    struct laurelsnap_listed listed = listed_with(room_for(bound + 1, steps)); /* which does not stop */
+    same(what, answer(listed.number, listed.states, listed.utility), 0, bound + 1, utility);
+    same(what, answer(listed.steps, listed.cost, listed.bound), steps, steps, bound);
 }
 
 static void ceilings(void)
@@ -459,26 +517,34 @@ static void ceilings(void)
     same("no terms", answer(found.number, found.pairs, found.ceiling), 0, 1, 0);
 }
 
-/* A counter of four digits of nine values that goes on for nothing, and is worth something at its last number. */
-static void make_counter(void)
+/* A counter of so many digits of so many values that goes on for nothing, and is worth most at its last number; and, if it has one, a switch
+   that can be set for nothing at its last number. */
+static void make_counter(unsigned digits, unsigned values, unsigned switches)
 {
-    enum { DIGITS = 4, VALUES = 9 };
-    make(DIGITS, DIGITS * (VALUES - 1), 1, 0);
-    for (size_t v = 0; v < DIGITS; v++)
-        file[28 + 2 * v] = VALUES;
-    for (size_t o = 0; o < DIGITS * (VALUES - 1); o++) {
-        unsigned digit = (unsigned)o / (VALUES - 1), value = (unsigned)o % (VALUES - 1);
+    unsigned moves = digits * (values - 1), terms = (digits + 3) / 4;
+    make(digits + switches, moves + switches, terms, 0);
+    for (unsigned v = 0; v < digits; v++)
+        file[28 + 2 * v] = (uint8_t)values;
+    for (unsigned o = 0; o < moves + switches; o++)
         put16(operator_at(o), 0);
+    for (unsigned o = 0; o < moves; o++) {
+        unsigned digit = o / (values - 1), value = o % (values - 1);
         pre(o, digit, value);
         eff(o, digit, value + 1);
-        for (unsigned v = digit + 1; v < DIGITS; v++) {
-            pre(o, v, VALUES - 1);
+        for (unsigned v = digit + 1; v < digits; v++) {
+            pre(o, v, values - 1);
             eff(o, v, 0);
         }
     }
-    put16(term_at(0), 1);
-    for (unsigned v = 0; v < DIGITS; v++)
-        asks(0, v, VALUES - 1);
+    for (unsigned n = 0; n < terms; n++)
+        put16(term_at(n), 1);
+    for (unsigned v = 0; v < digits; v++) {
+        asks(v / 4, v, values - 1);
+        if (switches)
+            pre(moves, v, values - 1);
+    }
+    if (switches)
+        eff(moves, digits, 1);
 }
 
 /* More pairs and steps than a bound has units, in lists that are just long enough and shared out of one block; and one short. */
@@ -486,7 +552,7 @@ static void one_block(void)
 {
     enum { NUMBERS = 9 * 9 * 9 * 9 };
     static const uint8_t last[4] = { 8, 8, 8, 8 }, first[4] = { 0, 0, 0, 0 };
-    make_counter();
+    make_counter(4, 9, 0);
     for (size_t turn = 0; turn < 3; turn++) {
         struct laurelsnap_room room = { .nodes = 65536, .utility = 64, .pairs = NUMBERS - (turn == 1), .steps = NUMBERS - 1 - (turn == 2) };
         uint8_t *block = malloc(laurelsnap_bytes(room));
@@ -520,6 +586,8 @@ static void takes(const char *what, size_t cost, size_t bound, uint64_t minutes,
     asks(0, 0, 1);
     struct laurelsnap_found found = found_with((struct lengths) { 2, 16, 8, 1 }, LISTS);
     same(what, answer(found.minutes, found.units, found.unused), minutes, units, unused);
+    struct laurelsnap_listed listed = listed_with(room_for(2, 1));
+    same(what, answer(listed.minutes, listed.units, listed.unused), minutes, units, unused);
 }
 
 static void times(void)
@@ -532,14 +600,291 @@ static void times(void)
     takes("a free operator", 0, 7, 0, 0, 7);
 }
 
-/* ---- random numbers */
+/* ---- the engine that lists states */
 
-static uint64_t seed = 1;
+/* A state, and its place. */
+struct state {
+    uint64_t state;
+    uint32_t cost, steps;
+};
 
-static size_t below(size_t n)
+static void kept_list(const char *what, const void *list, const void *before, size_t width, size_t from)
 {
-    seed = seed * 6364136223846793005u + 1442695040888963407u;
-    return (size_t)(seed >> 33) % n;
+    if (from < FRONT)
+        same_bytes(what, (const uint8_t *)list + width * from, (const uint8_t *)before + width * from, width * (FRONT - from));
+}
+
+/* The lists are as they were from these entries on. */
+static void kept_from(const char *what, struct state_lengths from)
+{
+    kept_list(what, listing.states, noise.states, sizeof *noise.states, from.states);
+    kept_list(what, listing.costs, noise.costs, sizeof *noise.costs, from.costs);
+    kept_list(what, listing.steps, noise.steps, sizeof *noise.steps, from.steps);
+    kept_list(what, listing.heads, noise.heads, sizeof *noise.heads, from.heads);
+    kept_list(what, listing.links, noise.links, sizeof *noise.links, from.links);
+    kept_list(what, plan, noise.plan, sizeof *plan, from.plan);
+}
+
+/* A refusal with lists of these lengths: all figures are 0, and what it leaves is as it was. */
+static void refuses(const char *what, struct state_lengths lent, uint64_t number, uint64_t value)
+{
+    struct laurelsnap_listed got = listed_with(lent), due = { .number = number, .value = value };
+    same(what, answer(got.number, got.value, got.states), number, value, 0);
+    same_bytes(what, (const uint8_t *)&got, (const uint8_t *)&due, sizeof due);
+    if (number <= 12)
+        lent = room_for(0, 0);
+    lent.plan = 0;
+    kept_from(what, lent);
+}
+
+/* A success with lists of these lengths: the answer, these states and places, each once, this plan, and everything else as it was. */
+static void succeeds(const char *what, struct state_lengths lent, struct laurelsnap_listed due, const struct state *listed, const uint16_t *best)
+{
+    struct laurelsnap_listed got = listed_with(lent);
+    same(what, answer(got.number, got.states, got.steps), 0, due.states, due.steps);
+    same_bytes(what, (const uint8_t *)&got, (const uint8_t *)&due, sizeof due);
+    for (size_t k = 0; k < due.states; k++) {
+        size_t times = 0, at = 0;
+        for (size_t i = 0; i < due.states; i++)
+            if (listing.states[i] == listed[k].state) {
+                times++;
+                at = i;
+            }
+        same(what, answer(times, listing.costs[at], listing.steps[at]), 1, listed[k].cost, listed[k].steps);
+    }
+    same_bytes(what, (const uint8_t *)plan, (const uint8_t *)best, sizeof *plan * due.steps);
+    lent.states = lent.costs = lent.steps = due.states;
+    lent.plan = due.steps;
+    kept_from(what, lent);
+}
+
+/* The states of the file, with the answer, places and plan that are due: in lists that are just long enough, longer and the longest, with
+   working lists of many lengths; and the refusals 12, 24 and 15 in this order, by lists that are unequal, too long or one entry short. */
+static void lists_states(const char *what, struct laurelsnap_listed due, const struct state *listed, const uint16_t *best)
+{
+    size_t n = due.states, m = due.steps;
+    succeeds(what, room_for(n, m), due, listed, best);
+    succeeds(what, room_for(n + 1, m + 1), due, listed, best);
+    succeeds(what, room_for(n + 1 + below(100), m + below(100)), due, listed, best);
+    succeeds(what, room_for(LONGEST, m), due, listed, best);
+    const size_t working_lengths[] = { 0, 1, 3, 7, n - 1, n, 2 * n + 1, 1023, 1024, 1025, 4097 };
+    enum { WORKING_LENGTHS = sizeof working_lengths / sizeof *working_lengths };
+    for (size_t h = 0; h < WORKING_LENGTHS; h++)
+        for (size_t l = 0; l < WORKING_LENGTHS; l++) {
+            struct state_lengths lent = room_for(n, m);
+            lent.heads = working_lengths[h];
+            lent.links = working_lengths[l];
+            succeeds(what, lent, due, listed, best);
+            lent.states = lent.costs = lent.steps = n - 1;
+            refuses(what, lent, 24, 0);
+        }
+    for (size_t count = 0; count < n; count++)
+        refuses(what, room_for(count, m), 24, 0);
+    refuses(what, room_for(n - 1, 0), 24, 0);
+    for (size_t short_plan = 0; short_plan < m; short_plan++) {
+        refuses(what, room_for(n, short_plan), 15, 0);
+        refuses(what, room_for(n + 1, short_plan), 15, 0);
+    }
+    refuses(what, room_for(LONGEST + 1, m), 12, 0);
+    for (int longer = 0; longer < 3; longer++)
+        for (int turn = 0; turn < 4; turn++) {
+            size_t count = turn == 0 ? 0 : turn == 1 ? n - 1 : turn == 2 ? n : LONGEST;
+            struct state_lengths lent = room_for(count, turn == 2 ? m : 0);
+            *(longer == 0 ? &lent.states : longer == 1 ? &lent.costs : &lent.steps) += 1;
+            refuses(what, lent, 12, 0);
+        }
+}
+
+/* The figures that are due where so many states are listed, and the best plan has this utility, cost and number of steps. */
+static struct laurelsnap_listed figures(uint64_t states, uint64_t utility, uint64_t cost, uint64_t steps)
+{
+    uint64_t bound = le16(file + 10);
+    return (struct laurelsnap_listed) { .utility = utility, .cost = cost, .bound = bound, .minutes = cost / 6, .units = cost % 6,
+        .unused = bound - cost, .states = states, .steps = steps };
+}
+
+/* The stand tasks. In P the bit of p is worth 1 and that of q 2; in Q, whose variable has two bits, the high one is worth 1, so that value 2
+   is the state 1 and value 1 the state 2. */
+static void listed_stand_cases(void)
+{
+    static const struct state P[] = { { 0, 0, 0 }, { 1, 1, 1 }, { 2, 1, 1 }, { 3, 2, 2 } };
+    static const struct state Q[] = { { 0, 0, 0 }, { 2, 2, 1 }, { 1, 4, 1 } };
+    static const uint16_t P_plan[] = { 1, 2 }, Q_plan[] = { 3 };
+    make_P(0);
+    lists_states("P 0, its states", figures(1, 0, 0, 0), P, P_plan);
+    make_P(1);
+    lists_states("P 1, its states", figures(3, 2, 1, 1), P, P_plan);
+    make_P(2);
+    lists_states("P 2, its states", figures(4, 3, 2, 2), P, P_plan);
+    make_P(4095);
+    lists_states("P 4095, its states", figures(4, 3, 2, 2), P, P_plan);
+    for (size_t bound = 0; bound <= 5; bound++) {
+        make_Q(bound);
+        uint64_t turned = bound >= 4;
+        lists_states("Q, its states", figures(1 + (bound >= 2) + turned, 7 * turned, 4 * turned, turned), Q, Q_plan);
+    }
+    make_P(1);
+    file[28] = 1;
+    refuses("P with a variable of one value", room_for(4, 2), 7, 0);
+    make_Q(5);
+    put16(operator_at(2), 4096);
+    refuses("Q with cost 4,096, and lists of unequal lengths", (struct state_lengths) { 1, 2, 3, 4, 5, 6 }, 9, 2);
+}
+
+/* What the bits of a state are worth: three variables of five, two and sixteen values, and all 48 bits. */
+static void listed_bits(void)
+{
+    static const struct state three[] = { { 1 + 8 + 16 + 128, 0, 0 }, { 2 + 4 + 8 + 32 + 64, 4095, 1 } };
+    static const uint16_t only[] = { 0 };
+    make(3, 1, 1, 4095);
+    memcpy(file + 28, (const uint8_t[]) { 5, 4, 2, 1, 16, 9 }, 6);
+    put16(operator_at(0), 4095);
+    pre(0, 1, 1);
+    eff(0, 0, 3);
+    eff(0, 2, 6);
+    lists_states("values 4, 1, 9, then 3, 1, 6", figures(2, 0, 0, 0), three, only);
+    const uint64_t all = ((uint64_t)1 << 48) - 1;
+    const struct state most[] = { { all, 0, 0 }, { all - ((uint64_t)15 << 44), 0, 1 } };
+    make(12, 1, 1, 0);
+    for (size_t v = 0; v < 12; v++)
+        memcpy(file + 28 + 2 * v, (const uint8_t[]) { 16, 15 }, 2);
+    put16(operator_at(0), 0);
+    eff(0, 11, 0);
+    put16(term_at(0), 65535);
+    asks(0, 11, 0);
+    lists_states("48 bits", figures(2, 65535, 0, 1), most, only);
+}
+
+/* The number of the state that has these values. */
+static uint64_t state_of(const uint8_t *values, const uint8_t *variable, size_t variables)
+{
+    uint64_t out = 0, worth = 1;
+    for (size_t v = 0; v < variables; v++)
+        for (unsigned b = bits_of(variable[2 * v]); b > 0; b--, worth *= 2)
+            out += worth * (values[v] >> (b - 1) & 1);
+    return out;
+}
+
+/* Whether each number of the counter is listed once, at cost 0 and in as many steps. */
+static int numbers_listed(const struct laurelsnap_state_lists *in, unsigned digits, unsigned values, size_t numbers)
+{
+    uint8_t digit[8], *seen = calloc(numbers, 1);
+    size_t right = 0;
+    for (size_t k = 0; seen != NULL && k < numbers; k++) {
+        size_t x = in->steps.at[k], rest = x;
+        for (unsigned v = digits; v-- > 0; rest /= values)
+            digit[v] = (uint8_t)(rest % values);
+        right += x < numbers && !seen[x] && in->costs.at[k] == 0 && in->states.at[k] == state_of(digit, file + 28, digits);
+        seen[x % numbers] = 1;
+    }
+    free(seen);
+    return right == numbers;
+}
+
+/* The counter's numbers, and the plan through all of them, in lists of one block that are just long enough, with one entry too few, with one
+   step too few, and with the switch, which makes one state more. */
+static void list_numbers(unsigned digits, unsigned values, size_t numbers)
+{
+    for (unsigned turn = 0; turn < 4; turn++) {
+        make_counter(digits, values, turn == 3);
+        struct laurelsnap_state_room room = { .states = numbers - (turn == 1), .steps = numbers - 1 - (turn == 2) };
+        uint8_t *block = malloc(laurelsnap_state_bytes(room)), *walked = malloc(2 * numbers);
+        if (block == NULL || walked == NULL)
+            exit(EXIT_FAILURE);
+        struct laurelsnap_state_lists in = laurelsnap_share_states(room, block);
+        struct laurelsnap_listed listed = laurelsnap_states_in(file, length, &in);
+        const uint8_t *begin = (uint8_t *)in.states.at, *end = (uint8_t *)(in.plan.at + in.plan.length);
+        same("the block's ends", answer(begin == block, end == block + laurelsnap_state_bytes(room), 0), 1, 1, 0);
+        uint64_t number = turn == 0 ? 0 : turn == 2 ? 15 : 24, done = turn == 0;
+        same("many states", answer(listed.number, listed.states, listed.steps), number, done * numbers, done * (numbers - 1));
+        if (listed.number == 0) {
+            same("many states, their places", answer(numbers_listed(&in, digits, values, numbers), 0, 0), 1, 0, 0);
+            for (size_t k = 0; k < listed.steps; k++)
+                store(walked + 2 * k, 2, in.plan.at[k]);
+            same("many states, their plan", laurelsnap_walk(file, length, walked, 2 * listed.steps), 0, 0, listed.utility);
+        }
+        free(block);
+        free(walked);
+    }
+}
+
+static void listed_cases(void)
+{
+    listed_stand_cases();
+    listed_bits();
+    list_numbers(4, 9, 9 * 9 * 9 * 9);
+    list_numbers(5, 16, LONGEST);
+}
+
+/* ---- both engines over one file */
+
+/* The next of the task's states, if there is one. */
+static int next_state(const Task *t, uint8_t *values)
+{
+    for (size_t v = 0; v < t->variables; v++) {
+        if (++values[v] < t->variable[2 * v])
+            return 1;
+        values[v] = 0;
+    }
+    return 0;
+}
+
+/* A place as a number, in the order of the pairs. */
+static uint64_t pair(uint32_t cost, uint32_t steps) { return ((uint64_t)cost << 32) + steps; }
+
+/* Of `count` listed states each is a different one of the task's, and stands where the question over a search's lists says; but the question
+   tells of no place past the last pair that the search has made. */
+static void compare_places(const char *what, const Task *t, size_t count, const struct laurelsnap_lists *in, const struct laurelsnap_found *found)
+{
+    const uint64_t last = pair(in->costs.at[found->pairs - 1], in->steps.at[found->pairs - 1]);
+    uint8_t values[32] = { 0 };
+    size_t met = 0;
+    do {
+        uint64_t state = state_of(values, t->variable, t->variables);
+        size_t k = 0;
+        while (k < count && listing.states[k] != state)
+            k++;
+        met += k < count;
+        uint32_t cost = listing.costs[k], steps = listing.steps[k], told = k < count && pair(cost, steps) <= last;
+        struct laurelsnap_place place = laurelsnap_question_in(file, length, values, t->variables, in, found);
+        stands(what, place, 0, told, told * cost, told * steps);
+    } while (next_state(t, values));
+    same(what, answer(met, 0, 0), count, 0, 0);
+}
+
+/* Both engines over the file: a refusal of it is the check's and leaves all lists, and else they hand over the same figures and plan and tell
+   the same places; of tasks with more states than the comparison has time for, nothing. */
+static void compare_engines(const char *what)
+{
+    enum { MOST_STATES = 1000 };
+    static const struct laurelsnap_room room = { .nodes = 65536, .utility = 16384, .pairs = 4096, .steps = 4096 };
+    static void *block;
+    Task t;
+    Answer checked = plain_check(file, length, &t);
+    if (checked.number != 0) {
+        refuses(what, room_for(below(8), below(8)), checked.number, checked.first);
+        return;
+    }
+    size_t all = 1;
+    for (size_t v = 0; v < t.variables && all <= MOST_STATES; v++)
+        all *= t.variable[2 * v];
+    if (all > MOST_STATES)
+        return;
+    if (block == NULL && (block = malloc(laurelsnap_bytes(room))) == NULL)
+        exit(EXIT_FAILURE);
+    const struct laurelsnap_lists in = laurelsnap_share(room, block);
+    struct laurelsnap_found found = laurelsnap_search_in(file, length, &in);
+    struct laurelsnap_listed listed = listed_with(room_for(all, all));
+    same(what, answer(listed.number, listed.value, listed.utility), found.number, found.value, found.utility);
+    same(what, answer(listed.cost, listed.bound, listed.steps), found.cost, found.bound, found.steps);
+    same(what, answer(listed.minutes, listed.units, listed.unused), found.minutes, found.units, found.unused);
+    if (listed.number != 0 || found.number != 0)
+        return;
+    same_bytes(what, (const uint8_t *)plan, (const uint8_t *)in.plan.at, sizeof *plan * found.steps);
+    compare_places(what, &t, listed.states, &in, &found);
+    refuses(what, room_for(listed.states - 1, all), 24, 0);
+    if (listed.steps > 0)
+        refuses(what, room_for(listed.states, listed.steps - 1), 15, 0);
 }
 
 /* ---- the writer */
@@ -734,6 +1079,7 @@ static void made_up(void)
     for (int i = 0; i < 2000; i++) {
         make_any();
         compare_check("a file");
+        compare_engines("a file, planned");
         compare_walks("a walk");
         compare_rearranged("a written file");
         if (below(2))
@@ -743,6 +1089,7 @@ static void made_up(void)
             file[at] = (uint8_t)below(below(2) ? 4 : 256);
             compare_check("a changed file");
             compare_writes("a changed file, written");
+            compare_engines("a changed file, planned");
         }
         compare_walks("a walk over a changed file");
     }
@@ -756,17 +1103,20 @@ static void made_up(void)
         }
         compare_check("any bytes");
         compare_writes("any bytes, written");
+        compare_engines("any bytes, planned");
     }
 }
 
 int main(void)
 {
+    make_noise();
     stand_cases();
     list_lengths();
     questions();
     ceilings();
     one_block();
     times();
+    listed_cases();
     writer_cases();
     made_up();
     printf("the supervisor's calls from C: %lu answers compared, %lu differ\n", compared, faults);

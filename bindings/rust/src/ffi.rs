@@ -1,6 +1,6 @@
 //! The static library's functions, as include/laurelsnap.h declares them.
 
-use crate::Found;
+use crate::{Found, Listed};
 
 #[repr(C)]
 pub struct Answer {
@@ -14,6 +14,13 @@ pub struct Report {
     pub number: u64,
     pub value: u64,
     pub found: Found,
+}
+
+#[repr(C)]
+pub struct Tally {
+    pub number: u64,
+    pub value: u64,
+    pub listed: Listed,
 }
 
 /// Where a state stands: `reached` is 1 or 0, and cost and steps are its place if it is 1.
@@ -62,4 +69,14 @@ extern "C" {
         high: *const u32, high_length: usize,
         count: usize, pairs: usize,
     ) -> Standing;
+
+    pub fn laurelsnap_states(
+        file: *const u8, file_length: usize,
+        states: *mut u64, states_length: usize,
+        costs: *mut u32, costs_length: usize,
+        steps: *mut u32, steps_length: usize,
+        heads: *mut u32, heads_length: usize,
+        links: *mut u32, links_length: usize,
+        plan: *mut u16, plan_length: usize,
+    ) -> Tally;
 }

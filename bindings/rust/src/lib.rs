@@ -4,8 +4,10 @@
 
 mod ffi;
 mod search;
+mod states;
 
 pub use search::{question, search, Found, Lists, Place, Room};
+pub use states::{states, Listed, StateLists, StateRoom};
 
 /// A numbered refusal. The value is the record's number for 7, 9 and 10, the step's for 17, 18 and 19, and else 0.
 #[derive(Clone, Copy, Debug, PartialEq, Eq)]
@@ -27,7 +29,7 @@ impl std::fmt::Display for Refusal {
             8 => "the variables take more than 48 bits",
             9 => "an operator record is against the rules",
             10 => "a term record is against the rules",
-            12 => "the lists of pairs, the node or the utility lists are unequal or too long",
+            12 => "the lists of pairs, states, nodes or utility entries are unequal or too long",
             13 => "the utility lists are too short",
             14 => "the node lists are too short",
             15 => "the plan list is too short",
@@ -39,6 +41,7 @@ impl std::fmt::Display for Refusal {
             21 => "the lists are no diagrams of the task",
             22 => "the output list is too short",
             23 => "the lists of pairs are too short",
+            24 => "the lists of states are too short",
             _ => "unknown cause",
         };
         write!(f, "refused {} {}: {cause}", self.number, self.value)

@@ -1,9 +1,10 @@
-//! One search, question or canonical file, asked of the proved library and of the reference planner, and compared in full.
+//! One search, question, list of states or canonical file, asked of the proved library and of the reference planner, and compared in full.
 //!
 //! A search is compared in its figures, the whole plan, the states of every pair made with those of the single-state search, the node
 //! entries, and in what the lists keep. The first difference is told with both answers.
 
 pub mod features;
+pub mod listed;
 
 use laurelsnap::{question, search, write, Lists, Place, Refusal, Room};
 use reference::plan::Reached;
@@ -28,7 +29,7 @@ impl Display for Difference {
     }
 }
 
-fn same<T: Debug + PartialEq>(at: impl Display, library: T, reference: T) -> Result<(), Difference> {
+pub(crate) fn same<T: Debug + PartialEq>(at: impl Display, library: T, reference: T) -> Result<(), Difference> {
     if library == reference {
         return Ok(());
     }
@@ -97,8 +98,7 @@ fn members(lists: &Lists, name: u32, k: u32, bits: u32, word: u64, out: &mut Vec
 fn compare_pairs(task: &Task, reached: &Reached, lists: &Lists) -> Result<(), Difference> {
     let mut expected: BTreeMap<(u64, u64), Vec<u64>> = BTreeMap::new();
     for (state, way) in reached {
-        let word = task.state_literals(state).iter().map(|&(k, one)| (one as u64) << k).sum();
-        expected.entry(way.place()).or_default().push(word);
+        expected.entry(way.place()).or_default().push(task.word(state));
     }
     for (i, (place, states)) in expected.iter_mut().enumerate() {
         same(format_args!("the place of pair {i}"), (lists.costs[i] as u64, lists.steps[i] as u64), *place)?;

@@ -1,17 +1,19 @@
 //! The comparison as a command: generated tasks, planned by the proved library and by the reference planner.
 
 use comparison::features::{features, shown, FAULTS, NAMES};
-use comparison::{compare_search, lent};
-use laurelsnap::Room;
+use comparison::listed::{compare_all_states, compare_engines};
+use comparison::{compare_search, lent, Difference};
+use laurelsnap::{Lists, Room, StateLists, StateRoom};
 use reference::plan::{best, Fault};
 use reference::random::{file, task, Dice};
 use reference::search::Found;
+use reference::states::Listed;
 use std::path::{Path, PathBuf};
 use std::process::{Command, ExitCode};
 
 const USAGE: &str = "compare [--tasks N] SEED...    for each seed N generated tasks (300 if none is given)
 compare --files FILE...        these task files
-Tasks are planned by the proved library and by a search over single states; stops at the first difference.";
+Tasks are planned by both engines of the proved library and by a search over single states; stops at the first difference.";
 /// The tasks of a seed if no number is given; from so many on they are tested for what they should have.
 const TASKS: usize = 300;
 /// The greatest bound; the tasks' bounds go from 0 to here in turn, but each of so many tasks has just what its best plan costs.
@@ -28,10 +30,19 @@ fn root() -> PathBuf {
     Path::new(env!("CARGO_MANIFEST_DIR")).join("../..")
 }
 
-/// One task: what both found, or where they differ.
-fn compare_task(dice: &mut Dice, bytes: &[u8], room: Room) -> Result<Found, String> {
+/// One task: what the search and the engine that lists states found, the library's as the reference's, or where they differ.
+fn compare_task(dice: &mut Dice, bytes: &[u8], room: Room) -> Result<(Found, Listed), String> {
     let lists = lent(dice, room);
-    compare_search(bytes, lists).map_err(|difference| difference.to_string())?.map_err(|refusal| format!("both: {refusal}"))
+    let told = |difference: Difference| difference.to_string();
+    let found = compare_search(bytes, lists).map_err(told)?.map_err(|refusal| format!("both: {refusal}"))?;
+    let listed =
+        compare_all_states(&mut dice.clone(), bytes).map_err(told)?.map_err(|refusal| format!("both list states: {refusal}"))?;
+    let state_room = StateRoom { states: listed.states.len(), steps: room.steps };
+    let agree = compare_engines(bytes, &mut Lists::new(room), &mut StateLists::new(state_room)).map_err(told)?;
+    if !agree {
+        return Err("an engine refuses lists that are long enough".to_string());
+    }
+    Ok((found, listed))
 }
 
 /// The message, with the task as a file and as text.
@@ -50,7 +61,7 @@ fn compare_seed(seed: u64, tasks: usize) -> Result<String, String> {
     let mut dice = Dice(seed);
     let mut counts = [0; NAMES.len()];
     let mut shows = [0; FAULTS.len()];
-    let (mut states, mut pairs) = (0, 0);
+    let (mut states, mut pairs, mut all) = (0, 0, 0);
     for (number, bound) in (0..tasks).zip((0..=BOUND).cycle()) {
         let mut random = task(&mut dice);
         random.bound = bound;
@@ -59,9 +70,10 @@ fn compare_seed(seed: u64, tasks: usize) -> Result<String, String> {
         }
         let bytes = file(&mut dice, &random);
         let name = format!("seed-{seed}-task-{number}");
-        let found = compare_task(&mut dice, &bytes, ROOM).map_err(|message| tell(&name, &bytes, &message))?;
+        let (found, listed) = compare_task(&mut dice, &bytes, ROOM).map_err(|message| tell(&name, &bytes, &message))?;
         states += found.reached.len();
         pairs += found.pairs();
+        all += listed.states.len();
         counts.iter_mut().zip(features(&found)).for_each(|(count, has)| *count += has as usize);
         shows.iter_mut().zip(shown(&found)).for_each(|(count, shows)| *count += shows as usize);
     }
@@ -70,7 +82,8 @@ fn compare_seed(seed: u64, tasks: usize) -> Result<String, String> {
     };
     let had = list(NAMES.into_iter().zip(counts).collect());
     let told = list(FAULTS.map(|(name, _)| name).into_iter().zip(shows).collect());
-    let summary = format!("seed {seed}: {tasks} tasks, {states} states in {pairs} pairs; {had}; would show {told}");
+    let summary =
+        format!("seed {seed}: {tasks} tasks, {states} states in {pairs} pairs, {all} states listed; {had}; would show {told}");
     let poor = counts.iter().any(|count| count * RARE < tasks) || shows.contains(&0);
     if poor && tasks >= TASKS {
         return Err(format!("{summary}: a feature is in less than one of {RARE} tasks, or a fault would not show"));

@@ -2,13 +2,15 @@
 
 use reference::plan::{best, Fault, Place};
 use reference::random::{file, task, Dice};
-use reference::search::{search, Found, Lengths, OSP_LIST};
+use reference::search::{search, Found, Lengths, LIST_MOST, OSP_LIST};
+use reference::states::{states, Lengths as StateLengths};
 use reference::{task as bpt, walk::walk, write::canonical};
 use std::io::Write;
 use std::process::ExitCode;
 
 const USAGE: &str = "reference plan FILE [ENTRIES]    the listing, with osp-list's lists or so many entries in each list
 reference pairs FILE [ENTRIES]   a line for each pair made: cost, steps, states in its set and in its wanted set (- past the target)
+reference states FILE [ENTRIES]  the figures and steps of the engine that lists states, then a line for each state: number, cost, steps
 reference faults FILE            the best plan, and what planners with the named faults hand over
 reference walk FILE OPERATOR...  cost and utility of a plan, or its refusal
 reference write FILE             the canonical file on standard output
@@ -18,17 +20,30 @@ fn read(name: &str) -> Result<Vec<u8>, String> {
     std::fs::read(name).map_err(|e| format!("{name}: {e}"))
 }
 
+fn number<T: std::str::FromStr>(word: &str) -> Result<T, String> {
+    word.parse().map_err(|_| format!("'{word}' is no number"))
+}
+
 /// What is shown of a search with osp-list's lists, or with so many entries in every list.
 fn searched(name: &str, entries: Option<&String>, show: fn(&Found) -> String) -> Result<String, String> {
     let lengths = match entries {
         None => OSP_LIST,
         Some(word) => {
-            let n = word.parse().map_err(|_| format!("'{word}' is no number"))?;
+            let n = number(word)?;
             Lengths { pairs: [n; 4], nodes: [n; 3], utility: [n; 3], plan: n }
         }
     };
     Ok(match search(&read(name)?, &lengths) {
         Ok(found) => show(&found),
+        Err(r) => format!("refused {} {}\n", r.number, r.value),
+    })
+}
+
+/// What is listed with lists as long as they may be, or with so many entries in every list.
+fn listed(name: &str, entries: Option<&String>) -> Result<String, String> {
+    let n = entries.map_or(Ok(LIST_MOST), |word| number(word))?;
+    Ok(match states(&read(name)?, &StateLengths { states: [n; 3], plan: n }) {
+        Ok(listed) => listed.listing(),
         Err(r) => format!("refused {} {}\n", r.number, r.value),
     })
 }
@@ -80,11 +95,12 @@ fn run(words: &[String]) -> Result<Vec<u8>, String> {
     match words {
         [c, name, n @ ..] if c == "plan" && n.len() < 2 => searched(name, n.first(), Found::listing).map(String::into_bytes),
         [c, name, n @ ..] if c == "pairs" && n.len() < 2 => searched(name, n.first(), pairs).map(String::into_bytes),
+        [c, name, n @ ..] if c == "states" && n.len() < 2 => listed(name, n.first()).map(String::into_bytes),
         [c, name] if c == "faults" => faults(name).map(String::into_bytes),
         [c, name, steps @ ..] if c == "walk" => walked(name, steps).map(String::into_bytes),
         [c, name] if c == "write" => canonical(&read(name)?).map_err(told),
         [c, seed] if c == "random" => {
-            let mut dice = Dice(seed.parse().map_err(|_| format!("'{seed}' is no number"))?);
+            let mut dice = Dice(number(seed)?);
             let random = task(&mut dice);
             Ok(file(&mut dice, &random))
         }

@@ -63,35 +63,24 @@ pub fn search(file: &[u8], lengths: &Lengths) -> Result<Found, Refusal> {
 }
 
 impl Found {
-    /// Whole minutes, units left over and units unused: minutes are taken off the cost as long as there is one in it.
+    /// Whole minutes, units left over and units unused.
     pub fn time(&self) -> (u64, u64, u64) {
-        let (mut minutes, mut units) = (0, self.best.cost);
-        while units > 5 {
-            (minutes, units) = (minutes + 1, units - 6);
-        }
-        (minutes, units, self.task.bound - self.best.cost)
+        self.best.time(self.task.bound)
     }
 
     /// The listing that osp-list prints.
     pub fn listing(&self) -> String {
         let (minutes, units, unused) = self.time();
-        let mut out = format!(
-            "utility {} of {}\ncost {} of {}\ntime {minutes} {units} {unused}\nnodes {} {}\nsteps {}\n",
+        format!(
+            "utility {} of {}\ncost {} of {}\ntime {minutes} {units} {unused}\nnodes {} {}\n{}",
             self.best.utility,
             self.ceiling,
             self.best.cost,
             self.task.bound,
             self.nodes,
             self.entries,
-            self.best.plan.len()
-        );
-        let mut spent = 0;
-        for (step, &o) in self.best.plan.iter().enumerate() {
-            let cost = self.task.operators[o as usize].cost;
-            spent += cost;
-            out += &format!("{step} {o} {cost} {spent}\n");
-        }
-        out
+            self.best.steps(&self.task)
+        )
     }
 
     /// The number of non-empty pairs made.

@@ -110,6 +110,11 @@ impl Task {
         let facts: Vec<Fact> = state.iter().enumerate().map(|(v, &x)| Fact { var: v as u8, val: x }).collect();
         self.literals(&facts)
     }
+
+    /// A state's number: bit k is worth 2^k.
+    pub fn word(&self, state: &[u8]) -> u64 {
+        self.state_literals(state).iter().map(|&(k, one)| (one as u64) << k).sum()
+    }
 }
 
 /// A number of so many bytes, low byte first.

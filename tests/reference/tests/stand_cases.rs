@@ -1,8 +1,9 @@
 //! The scope document's stand cases, on the example files.
 
 use reference::example;
-use reference::plan::{best, Fault};
+use reference::plan::{best, Fault, Place};
 use reference::search::{search, Lengths, OSP_LIST};
+use reference::states::{self, states};
 use reference::task::{check, encode, Operator, Refusal, Task};
 use reference::walk::{walk, Walked};
 
@@ -49,6 +50,32 @@ fn short_lists() {
     assert_eq!(number(Lengths { pairs: [1_048_577; 4], ..OSP_LIST }), 12);
     assert_eq!(number(Lengths { nodes: [8, 8, 9], ..OSP_LIST }), 12);
     assert_eq!(number(Lengths { utility: [1_048_577; 3], ..OSP_LIST }), 12);
+}
+
+/// The states with their places, or the refusal's number.
+fn listed(name: &str, count: usize, plan: usize) -> Result<Vec<(u64, Place)>, u64> {
+    let lengths = states::Lengths { states: [count; 3], plan };
+    states(&example(name), &lengths).map(|listed| listed.states).map_err(|r| r.number)
+}
+
+/// In P bit 0 is p and bit 1 is q. Q's one variable has two bits, the high one first: 2 has the number 1, and 1 has 2.
+#[test]
+fn states_with_their_places() {
+    assert_eq!(listed("p-0", 1, 0), Ok(vec![(0, (0, 0))]));
+    assert_eq!(listed("p-1", 3, 1), Ok(vec![(0, (0, 0)), (1, (1, 1)), (2, (1, 1))]));
+    assert_eq!(listed("p-2", 4, 2), Ok(vec![(0, (0, 0)), (1, (1, 1)), (2, (1, 1)), (3, (2, 2))]));
+    assert_eq!(listed("q-3", 2, 0), Ok(vec![(0, (0, 0)), (2, (2, 1))]));
+    assert_eq!(listed("q-5", 3, 1), Ok(vec![(0, (0, 0)), (1, (4, 1)), (2, (2, 1))]));
+    assert_eq!(listed("p-1", 2, 1), Err(24));
+    assert_eq!(listed("p-1", 2, 0), Err(24));
+    assert_eq!(listed("p-1", 3, 0), Err(15));
+    assert_eq!(listed("p-1", 1_048_577, 1), Err(12));
+}
+
+#[test]
+fn the_listing_of_states() {
+    let listed = states(&example("p-1"), &states::Lengths { states: [3; 3], plan: 1 }).expect("a plan");
+    assert_eq!(listed.listing(), "utility 2\ncost 1 of 1\ntime 0 1 0\nstates 3\nsteps 1\n0 1 1 1\n0 0 0\n1 1 1\n2 1 1\n");
 }
 
 #[test]
