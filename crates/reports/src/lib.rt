@@ -207,21 +207,21 @@ pub struct Tally {
 }
 
 // A number, a value, and the figures with their time.
-fn tally_with(number: u64, value: u64, found: Summary) -> Tally
-    ensures { λ r. ⌜ r ≡ tallyWith number value found ⌝ }
+fn tally_with(number: u64, value: u64, summary: Summary) -> Tally
+    ensures { λ r. ⌜ r ≡ tallyWith number value summary ⌝ }
 {
-    let time = time_of(found.cost, found.bound);
+    let time = time_of(summary.cost, summary.bound);
     Tally {
         number,
         value,
-        utility: found.utility as u64,
-        cost: found.cost as u64,
-        bound: found.bound as u64,
+        utility: summary.utility as u64,
+        cost: summary.cost as u64,
+        bound: summary.bound as u64,
         minutes: time.minutes as u64,
         units: time.units as u64,
         unused: time.unused as u64,
-        states: found.states as u64,
-        steps: found.steps as u64,
+        states: summary.states as u64,
+        steps: summary.steps as u64,
     }
 }
 
