@@ -3,7 +3,7 @@
 ghost use Rattle.std.specs.Prelude.{◌≤◌, length};
 ghost use Rattle.task.specs.Bytes.{Reads};
 ghost use Rattle.task.specs.Format.{cost};
-ghost use Rattle.record_lookup.specs.Lookup.{operatorPart};
+ghost use Rattle.record_lookup.specs.Lookup.{operator_part};
 ghost use Rattle.osp_list.specs.StepsFit.{StepsFit};
 
 use record_lookup::operator;
@@ -45,7 +45,7 @@ fn print_step(step: usize, operator: u16, cost: usize, so_far: usize) {
 
 // The cost of an operator of the file, from its record.
 fn operator_cost(file: &[u8], o: u16) -> usize
-    ensures { Reads result (cost (operatorPart file.now o)) 65536 }
+    ensures { Reads result (cost (operator_part file.now o)) 65536 }
 {
     cost(operator(file, o as usize))
 }

@@ -8,19 +8,19 @@ use native.Mathlib.Omega.{arith}
 use lib.Dec.{T}
 use Rattle.planning.specs.Connectives.{◌and◌, ◌or◌}
 
-pub T_true : (b : Bool) → T b ↔ (b ≡ true)
-T_true true = (λ h. refl, λ h. tt)
-T_true false = (λ h. absurd h, λ h. absurd (false≢true h))
+pub t_true : (b : Bool) → T b ↔ (b ≡ true)
+t_true true = (λ h. refl, λ h. tt)
+t_true false = (λ h. absurd h, λ h. absurd (false≢true h))
 
-pub T_and : (a b : Bool) → T (a and b) ↔ (T a × T b)
+pub t_and : (a b : Bool) → T (a and b) ↔ (T a × T b)
 unfolding ◌and◌
-T_and true b = (λ h. (tt, h), λ h. h.1)
-T_and false b = (λ h. absurd h, λ h. h.0)
+t_and true b = (λ h. (tt, h), λ h. h.1)
+t_and false b = (λ h. absurd h, λ h. h.0)
 
-pub T-or : (a b : Bool) → T (a or b) ↔ (T a ⊎ T b)
+pub t_or : (a b : Bool) → T (a or b) ↔ (T a ⊎ T b)
 unfolding ◌or◌
-T-or true b = (λ h. inl tt, λ h. tt)
-T-or false b = (λ h. inr h, λ h. by h)
+t_or true b = (λ h. inl tt, λ h. tt)
+t_or false b = (λ h. inr h, λ h. by h)
   where
     by : ⊥ ⊎ T b → T b
     by (inl x) = absurd x

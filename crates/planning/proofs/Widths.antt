@@ -9,9 +9,9 @@ use borrow.Author.Tests.{leb-true, leb-false}
 use Rattle.planning.specs.Connectives.{pick}
 use Rattle.planning.specs.Coding.{wide, width}
 
-lt-pow : (n : ℕ) → n < 2 ^ n
-lt-pow zero = omega arith
-lt-pow (suc n) = omega (arith, lt-pow n)
+lt_pow : (n : ℕ) → n < 2 ^ n
+lt_pow zero = omega arith
+lt_pow (suc n) = omega (arith, lt_pow n)
 
 wide_fits : (f w d : ℕ) → d ≤ 2 ^ (f + w) → d ≤ 2 ^ wide f w d
 unfolding wide pick
@@ -25,12 +25,12 @@ wide_fits (suc f) w d h = by (leb d (2 ^ w)) refl (wide_fits f (suc w) d (let x 
 -- its bits number all values
 pub width_fits : (d : ℕ) → d ≤ 2 ^ width d
 unfolding width
-width_fits d = wide_fits d 0 d (let e : d + 0 ≡ d = omega arith in rw e (omega (arith, lt-pow d)))
+width_fits d = wide_fits d 0 d (let e : d + 0 ≡ d = omega arith in rw e (omega (arith, lt_pow d)))
 
-wide-least : (f w d k : ℕ) → w ≤ k → d ≤ 2 ^ k → wide f w d ≤ k
+wide_least : (f w d k : ℕ) → w ≤ k → d ≤ 2 ^ k → wide f w d ≤ k
 unfolding wide pick
-wide-least zero w d k le h = le
-wide-least (suc f) w d k le h = by (leb d (2 ^ w)) refl (λ x. wide-least f (suc w) d k x h)
+wide_least zero w d k le h = le
+wide_least (suc f) w d k le h = by (leb d (2 ^ w)) refl (λ x. wide_least f (suc w) d k x h)
   where
     by : (v : Bool) → leb d (2 ^ w) ≡ v → (suc w ≤ k → wide f (suc w) d ≤ k) → pick v w (wide f (suc w) d) ≤ k
     by true e rec = le
@@ -41,6 +41,6 @@ wide-least (suc f) w d k le h = by (leb d (2 ^ w)) refl (λ x. wide-least f (suc
         go (no x) = omega arith
 
 -- no number of bits below it will do
-pub width-least : (d k : ℕ) → d ≤ 2 ^ k → width d ≤ k
+pub width_least : (d k : ℕ) → d ≤ 2 ^ k → width d ≤ k
 unfolding width
-width-least d k h = wide-least d 0 d k (omega arith) h
+width_least d k h = wide_least d 0 d k (omega arith) h

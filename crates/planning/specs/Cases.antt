@@ -3,7 +3,7 @@ use Rattle.std.specs.Prelude.{ℕ, ◌≡◌, List, [], ◌∷◌}
 use Rattle.planning.specs.Model.{Fact, Task, cost, utility}
 use Rattle.planning.specs.Ceiling.{ceiling}
 use Rattle.planning.specs.Best.{Best}
-use Rattle.planning.specs.Pairs.{byPairs}
+use Rattle.planning.specs.Pairs.{by_pairs}
 use Rattle.planning.specs.Exhaustive.{best}
 
 unfoldable pub fact : ℕ → ℕ → Fact
@@ -42,7 +42,7 @@ Q b = record {
 -- for costs, finds it
 pub record PlanRow (t : Task) (p : List ℕ) (u top c : ℕ) : Type 0 where
   pub plan : Best t p
-  pub found : best (byPairs t) ≡ p
+  pub found : best (by_pairs t) ≡ p
   pub utility : utility t p ≡ u
   pub most : ceiling t ≡ top
   pub costs : cost t p ≡ c

@@ -3,9 +3,9 @@ use Rattle.std.specs.Prelude.{ℕ, zero, suc, Bool, true, List, [], ◌∷◌}
 use Rattle.planning.specs.Connectives.{◌and◌, pick}
 
 -- the first of the n numbers from i at which the test fails, or the number after them
-unfoldable pub firstBad : (ℕ → Bool) → ℕ → ℕ → ℕ
-firstBad ok zero i = i
-firstBad ok (suc n) i = pick (ok i) (firstBad ok n (suc i)) i
+unfoldable pub first_bad : (ℕ → Bool) → ℕ → ℕ → ℕ
+first_bad ok zero i = i
+first_bad ok (suc n) i = pick (ok i) (first_bad ok n (suc i)) i
 
 -- whether the test holds at each of the n numbers from i
 unfoldable pub every : (ℕ → Bool) → ℕ → ℕ → Bool

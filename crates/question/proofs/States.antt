@@ -9,16 +9,16 @@ use lib.ListN.{length, get_or}
 use borrow.Author.Tests.{eqb-true, ltb-true}
 use Rattle.planning.specs.Coding.{Valid}
 use Rattle.planning.proofs.Guards.{and_both}
-use Rattle.planning.proofs.Scan.{every-at}
+use Rattle.planning.proofs.Scan.{every_at}
 use Rattle.task.specs.Bytes.{byte}
 use Rattle.task.specs.Format.{variables, size}
 use Rattle.task.specs.Decode.{sizes}
-use Rattle.task.proofs.Goodness.{size-at}
-use Rattle.question.specs.Question.{valueRight, stateRight}
+use Rattle.task.proofs.Goodness.{size_at}
+use Rattle.question.specs.Question.{value_right, state_right}
 
-pub value-is : (f state : List ℕ) (v x d : ℕ) → v < variables f → x ≡ byte state v → d ≡ size f v → ltb x d ≡ valueRight (sizes f) state v
-unfolding valueRight byte
-value-is f state v x d h e q = rw (e, q, size-at f v h) refl
+pub value_is : (f state : List ℕ) (v x d : ℕ) → v < variables f → x ≡ byte state v → d ≡ size f v → ltb x d ≡ value_right (sizes f) state v
+unfolding value_right byte
+value_is f state v x d h e q = rw (e, q, size_at f v h) refl
 
 valid : (ds s : List ℕ) → length s ≡ length ds → ((v : ℕ) → v < length ds → get_or s v 0 < get_or ds v 0) → Valid ds s
 valid [] [] l h = tt
@@ -26,12 +26,12 @@ valid [] (x ∷ s) l h = absurd (omega arith)
 valid (d ∷ ds) [] l h = absurd (omega arith)
 valid (d ∷ ds) (x ∷ s) l h = (h 0 (omega arith), valid ds s (omega arith) (λ v lt. h (suc v) (omega arith)))
 
-pub state-valid : (ds s : List ℕ) → stateRight ds s ≡ true → Valid ds s
-unfolding stateRight valueRight
-state-valid ds s h =
+pub state_valid : (ds s : List ℕ) → state_right ds s ≡ true → Valid ds s
+unfolding state_right value_right
+state_valid ds s h =
     let p = and_both _ _ h in
-    valid ds s (eqb-true _ _ p.0) (λ v lt. ltb-true _ _ (every-at (valueRight ds s) (length ds) 0 p.1 v (omega arith) (omega arith)))
+    valid ds s (eqb-true _ _ p.0) (λ v lt. ltb-true _ _ (every_at (value_right ds s) (length ds) 0 p.1 v (omega arith) (omega arith)))
 
-pub state-length : (ds s : List ℕ) → stateRight ds s ≡ true → length s ≡ length ds
-unfolding stateRight
-state-length ds s h = eqb-true _ _ (and_both _ _ h).0
+pub state_length : (ds s : List ℕ) → state_right ds s ≡ true → length s ≡ length ds
+unfolding state_right
+state_length ds s h = eqb-true _ _ (and_both _ _ h).0

@@ -4,21 +4,21 @@ use Rattle.std.specs.Prelude.{ℕ, zero, suc, Bool, List, eqb, ltb, length, get_
 use Rattle.planning.specs.Connectives.{◌and◌, pick}
 use Rattle.planning.specs.Scan.{every}
 use Rattle.planning.specs.Coding.{bits, code}
-use Rattle.lent_lists.specs.Lists.{listsWrong, pairsWrong, listed}
+use Rattle.lent_lists.specs.Lists.{lists_wrong, pairs_wrong, listed}
 use Rattle.diagrams.specs.Tree.{Tree, named, trees, member}
 use Rattle.task.specs.Decode.{sizes}
-use Rattle.task.specs.Check.{checkOf, accepted}
+use Rattle.task.specs.Check.{check_of, accepted}
 use Rattle.question.specs.declared.Answered.{Answered}
 use Rattle.question.specs.declared.Answered.TheVariants.{Refused, Reached, NotReached}
 
 -- ---- 20, of a state of a task whose variables have these numbers of values
 -- the value of variable v is in its range
-unfoldable pub valueRight : List ℕ → List ℕ → ℕ → Bool
-valueRight ds state v = ltb (get_or state v 0) (get_or ds v 0)
+unfoldable pub value_right : List ℕ → List ℕ → ℕ → Bool
+value_right ds state v = ltb (get_or state v 0) (get_or ds v 0)
 
 -- there is a value for each variable, and each is in its range
-unfoldable pub stateRight : List ℕ → List ℕ → Bool
-stateRight ds state = eqb (length state) (length ds) and every (valueRight ds state) (length ds) 0
+unfoldable pub state_right : List ℕ → List ℕ → Bool
+state_right ds state = eqb (length state) (length ds) and every (value_right ds state) (length ds) 0
 
 -- ---- the answer
 -- the set of pair i holds the state with the bits σ
@@ -26,22 +26,22 @@ unfoldable pub in_set : List ℕ → List Tree → List Bool → ℕ → Bool
 in_set sets entries σ i = member (named entries (get_or sets i 0)) σ
 
 -- cost and steps of the first of the n pairs from i whose set holds the state
-unfoldable pub placeFrom : List ℕ → List ℕ → (ℕ → Bool) → ℕ → ℕ → Answered
-placeFrom costs steps holds zero i = NotReached
-placeFrom costs steps holds (suc n) i = pick (holds i) (Reached (get_or costs i 0) (get_or steps i 0)) (placeFrom costs steps holds n (suc i))
+unfoldable pub place_from : List ℕ → List ℕ → (ℕ → Bool) → ℕ → ℕ → Answered
+place_from costs steps holds zero i = NotReached
+place_from costs steps holds (suc n) i = pick (holds i) (Reached (get_or costs i 0) (get_or steps i 0)) (place_from costs steps holds n (suc i))
 
 -- 12, for the lists of pairs and for the node lists; 20, 21 and the answer; for a task whose variables have these numbers of values
-unfoldable pub askOf : List ℕ → List ℕ → List ℕ → List ℕ → List ℕ → List ℕ → List ℕ → List ℕ → List ℕ → ℕ → ℕ → Answered
-askOf ds state costs steps sets wanted bit low high count pairs =
-    pick (pairsWrong (length costs) (length steps) (length sets) (length wanted)) (Refused 12 0)
-    (pick (listsWrong (length bit) (length low) (length high)) (Refused 12 0)
-    (pick (stateRight ds state)
+unfoldable pub ask_of : List ℕ → List ℕ → List ℕ → List ℕ → List ℕ → List ℕ → List ℕ → List ℕ → List ℕ → ℕ → ℕ → Answered
+ask_of ds state costs steps sets wanted bit low high count pairs =
+    pick (pairs_wrong (length costs) (length steps) (length sets) (length wanted)) (Refused 12 0)
+    (pick (lists_wrong (length bit) (length low) (length high)) (Refused 12 0)
+    (pick (state_right ds state)
     (pick (listed (bits ds) pairs sets bit low high count)
-    (placeFrom costs steps (in_set sets (trees bit low high count) (code ds state)) pairs 0)
+    (place_from costs steps (in_set sets (trees bit low high count) (code ds state)) pairs 0)
     (Refused 21 0))
     (Refused 20 0)))
 
 -- the file check first
-unfoldable pub questionOf : List ℕ → List ℕ → List ℕ → List ℕ → List ℕ → List ℕ → List ℕ → List ℕ → List ℕ → ℕ → ℕ → Answered
-questionOf file state costs steps sets wanted bit low high count pairs =
-    pick (accepted file) (askOf (sizes file) state costs steps sets wanted bit low high count pairs) (Refused (checkOf file).0 (checkOf file).1)
+unfoldable pub question_of : List ℕ → List ℕ → List ℕ → List ℕ → List ℕ → List ℕ → List ℕ → List ℕ → List ℕ → ℕ → ℕ → Answered
+question_of file state costs steps sets wanted bit low high count pairs =
+    pick (accepted file) (ask_of (sizes file) state costs steps sets wanted bit low high count pairs) (Refused (check_of file).0 (check_of file).1)

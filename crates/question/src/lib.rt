@@ -5,7 +5,7 @@ ghost use Rattle.diagrams.specs.Tree.{trees};
 ghost use Rattle.task.specs.Format.{variables};
 ghost use Rattle.task.specs.Check.{accepted};
 ghost use Rattle.task.specs.Decode.{sizes};
-ghost use Rattle.question.specs.Question.{valueRight, stateRight, placeFrom, askOf, questionOf};
+ghost use Rattle.question.specs.Question.{value_right, state_right, place_from, ask_of, question_of};
 ghost use Rattle.question.specs.PairSets.{PairSets, held_at};
 
 use diagrams::member::member;
@@ -30,14 +30,14 @@ pub enum Answered {
 // The value of variable v is in its range.
 fn value_right(file: &[u8], state: &[u8], v: usize) -> bool
     requires { (v < variables file.now) × (v < 65536) }
-    ensures { result ≡ valueRight (sizes file.now) state.now v }
+    ensures { result ≡ value_right (sizes file.now) state.now v }
 {
     byte(state, v) < size(file, v)
 }
 
 // 20: there is a value for each variable, and each is in its range.
 fn state_right(file: &[u8], state: &[u8]) -> bool
-    ensures { result ≡ stateRight (sizes file.now) state.now }
+    ensures { result ≡ state_right (sizes file.now) state.now }
 {
     let n = variables(file);
     if state.len() != n {
@@ -67,7 +67,7 @@ fn place(
 ) -> Answered
     requires { PairSets costs.now steps.now sets.now bit.now low.now high.now count n }
     ensures { let entries = trees bit.now low.now high.now count in
-        result ≡ placeFrom costs.now steps.now (held_at sets.now entries state) n 0 }
+        result ≡ place_from costs.now steps.now (held_at sets.now entries state) n 0 }
 {
     let mut i = 0;
     while i < n {
@@ -104,7 +104,7 @@ fn ask(
     pairs: usize,
 ) -> Answered
     requires { accepted file.now ≡ true }
-    ensures { result ≡ askOf (sizes file.now) state.now
+    ensures { result ≡ ask_of (sizes file.now) state.now
         costs.now steps.now sets.now wanted.now bit.now low.now high.now count pairs }
 {
     if pairs_wrong(costs.len(), steps.len(), sets.len(), wanted.len()) {
@@ -138,7 +138,7 @@ pub fn question(
     count: usize,
     pairs: usize,
 ) -> Answered
-    ensures { result ≡ questionOf file.now state.now
+    ensures { result ≡ question_of file.now state.now
         costs.now steps.now sets.now wanted.now bit.now low.now high.now count pairs }
 {
     if let Checked::Refused { number, place } = check(file) {

@@ -6,25 +6,25 @@ use mathlib.Core.List.{List, []}
 use lib.ListN.{take, drop}
 use borrow.Author.Tests.{lt-ltb, le-ltb}
 use Rattle.planning.proofs.Guards.{pick_yes, pick_no}
-use Rattle.task.specs.Limits.{operatorBytes}
-use Rattle.task.specs.Format.{operators, operatorsAt, operatorRecord}
+use Rattle.task.specs.Limits.{operator_bytes}
+use Rattle.task.specs.Format.{operators, operators_at, operator_record}
 use Rattle.task.specs.Check.{accepted}
 use Rattle.task.proofs.Acceptance.{record_is}
-use Rattle.record_lookup.specs.Lookup.{operatorPart}
+use Rattle.record_lookup.specs.Lookup.{operator_part}
 
 module _ (f : List ℕ) (o : ℕ) where
-  pub part-refused : accepted f ≡ false → [] ≡ operatorPart f o
-  unfolding operatorPart
-  part-refused r = pick_no _ _ _ _ r refl
+  pub part_refused : accepted f ≡ false → [] ≡ operator_part f o
+  unfolding operator_part
+  part_refused r = pick_no _ _ _ _ r refl
 
-  pub part_none : accepted f ≡ true → operators f ≤ o → [] ≡ operatorPart f o
-  unfolding operatorPart
+  pub part_none : accepted f ≡ true → operators f ≤ o → [] ≡ operator_part f o
+  unfolding operator_part
   part_none a h = pick_yes _ _ _ _ a (pick_no _ _ _ _ (le-ltb o (operators f) h) refl)
 
-  pub part-record : accepted f ≡ true → o < operators f → operatorRecord f o ≡ operatorPart f o
-  unfolding operatorPart
-  part-record a h = pick_yes _ _ _ _ a (pick_yes _ _ _ _ (lt-ltb o (operators f) h) refl)
+  pub part_record : accepted f ≡ true → o < operators f → operator_record f o ≡ operator_part f o
+  unfolding operator_part
+  part_record a h = pick_yes _ _ _ _ a (pick_yes _ _ _ _ (lt-ltb o (operators f) h) refl)
 
   -- the 36 bytes from the record's place on
-  pub operator-is : accepted f ≡ true → o < operators f → operatorPart f o ≡ take operatorBytes (drop (operatorsAt f + operatorBytes * o) f)
-  operator-is a h = rw (sym (part-record a h)) (record_is f a o h)
+  pub operator_is : accepted f ≡ true → o < operators f → operator_part f o ≡ take operator_bytes (drop (operators_at f + operator_bytes * o) f)
+  operator_is a h = rw (sym (part_record a h)) (record_is f a o h)

@@ -1,6 +1,6 @@
 // The record lookup: an operator's record as a part of a file of any kind.
 ghost use Rattle.std.specs.Prelude.{◌≡◌};
-ghost use Rattle.record_lookup.specs.Lookup.{operatorPart};
+ghost use Rattle.record_lookup.specs.Lookup.{operator_part};
 
 use task::header::operators;
 use task::records::operator_record;
@@ -8,7 +8,7 @@ use task_check::accepted;
 
 // The record of operator o, as a part of the file: nothing for a refused file, or a number without a record.
 pub fn operator(file: &[u8], o: usize) -> &[u8]
-    ensures { result.now ≡ operatorPart file.now o }
+    ensures { result.now ≡ operator_part file.now o }
 {
     if !accepted(file) {
         return &file[..0];

@@ -12,5 +12,5 @@ abbrev pub placed : Place → ℕ × ℕ × ℕ × ℕ × ℕ
 placed r = (r.number, r.value, r.reached, r.cost, r.steps)
 
 -- the file check's number and value, then 0
-abbrev pub checkNumbers : ℕ × ℕ → ℕ × ℕ × ℕ
-checkNumbers a = (a.0, a.1, 0)
+abbrev pub check_numbers : ℕ × ℕ → ℕ × ℕ × ℕ
+check_numbers a = (a.0, a.1, 0)

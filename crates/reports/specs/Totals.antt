@@ -3,21 +3,21 @@ use Rattle.std.specs.Prelude.{ℕ}
 use Rattle.search_answer.specs.declared.Listing.{Listing}
 use Rattle.search_answer.specs.declared.Searched.{Searched}
 use Rattle.search_answer.specs.Answers.{numbers, figures}
-use Rattle.shift_time.specs.Time.{timeOf}
+use Rattle.shift_time.specs.Time.{time_of}
 use Rattle.reports.specs.declared.Totals.{Totals}
 
 -- a number, a value, and the figures of a listing with its time
-abbrev pub totalsWith : ℕ → ℕ → Listing → Totals
-totalsWith number value l = record {
+abbrev pub totals_with : ℕ → ℕ → Listing → Totals
+totals_with number value l = record {
   number = number;
   value = value;
   utility = l.utility;
   ceiling = l.ceiling;
   cost = l.cost;
   bound = l.bound;
-  minutes = (timeOf l.cost l.bound).minutes;
-  units = (timeOf l.cost l.bound).units;
-  unused = (timeOf l.cost l.bound).unused;
+  minutes = (time_of l.cost l.bound).minutes;
+  units = (time_of l.cost l.bound).units;
+  unused = (time_of l.cost l.bound).unused;
   nodes = l.nodes;
   entries = l.entries;
   pairs = l.pairs;
@@ -25,5 +25,5 @@ totalsWith number value l = record {
 }
 
 -- the search's number and value, and the figures of the listing, all 0 after a refusal
-abbrev pub totalsOf : Searched → Totals
-totalsOf r = totalsWith (numbers r).0 (numbers r).1 (figures r)
+abbrev pub totals_of : Searched → Totals
+totals_of r = totals_with (numbers r).0 (numbers r).1 (figures r)

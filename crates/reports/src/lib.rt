@@ -5,11 +5,11 @@ ghost use Rattle.task_check.specs.Answers.{answer};
 ghost use Rattle.writer.specs.Answers.{numbers as writeNumbers};
 ghost use Rattle.walk.specs.Answers.{numbers as walkNumbers};
 ghost use Rattle.question.specs.Answers.{numbers as questionNumbers};
-ghost use Rattle.search_answer.specs.Answers.{noFigures};
-ghost use Rattle.states_answer.specs.Answers.{noFigures as noSummary};
-ghost use Rattle.reports.specs.Reported.{reported, placed, checkNumbers};
-ghost use Rattle.reports.specs.Totals.{totalsWith, totalsOf};
-ghost use Rattle.reports.specs.Tallies.{tallyWith, tally_of};
+ghost use Rattle.search_answer.specs.Answers.{no_figures};
+ghost use Rattle.states_answer.specs.Answers.{no_figures as noSummary};
+ghost use Rattle.reports.specs.Reported.{reported, placed, check_numbers};
+ghost use Rattle.reports.specs.Totals.{totals_with, totals_of};
+ghost use Rattle.reports.specs.Tallies.{tally_with, tally_of};
 
 use question::Answered;
 use search_answer::{Listing, Searched};
@@ -41,7 +41,7 @@ fn reply(number: u64, first: u64, second: u64) -> Report
 
 // The file check: 0, or the refusal's number and value.
 pub fn of_check(told: Checked) -> Report
-    ensures { reported result ≡ checkNumbers (answer told) }
+    ensures { reported result ≡ check_numbers (answer told) }
 {
     match told {
         Checked::Accepted => reply(0, 0, 0),
@@ -144,7 +144,7 @@ pub struct Totals {
 
 // A number, a value, and the figures of a listing with its time.
 fn totals_with(number: u64, value: u64, found: Listing) -> Totals
-    ensures { result ≡ totalsWith number value found }
+    ensures { result ≡ totals_with number value found }
 {
     let time = time_of(found.cost, found.bound);
     Totals {
@@ -166,7 +166,7 @@ fn totals_with(number: u64, value: u64, found: Listing) -> Totals
 
 // The figures after a refusal.
 fn no_figures() -> Listing
-    ensures { result ≡ noFigures }
+    ensures { result ≡ no_figures }
 {
     Listing {
         utility: 0,
@@ -182,7 +182,7 @@ fn no_figures() -> Listing
 
 // The search: the refusal's number and value, or 0, 0 and the figures of the listing.
 pub fn of_search(told: Searched) -> Totals
-    ensures { result ≡ totalsOf told }
+    ensures { result ≡ totals_of told }
 {
     match told {
         Searched::Refused { number, place } => {
@@ -210,7 +210,7 @@ pub struct Tally {
 
 // A number, a value, and the figures with their time.
 fn tally_with(number: u64, value: u64, summary: Summary) -> Tally
-    ensures { result ≡ tallyWith number value summary }
+    ensures { result ≡ tally_with number value summary }
 {
     let time = time_of(summary.cost, summary.bound);
     Tally {

@@ -5,16 +5,16 @@ use mathlib.Core.List.{[]}
 use native.Mathlib.Omega.{arith}
 use lib.ListN.{replicate}
 use Rattle.planning.specs.Connectives.{◌and◌, pick}
-use Rattle.planning.specs.Model.{value_of, holds, stateUtility}
-use Rattle.planning.specs.Ceiling.{greatestBelow, greatestOver, ceiling}
+use Rattle.planning.specs.Model.{value_of, holds, state_utility}
+use Rattle.planning.specs.Ceiling.{greatest_below, greatest_over, ceiling}
 use Rattle.planning.specs.Cases.{fact, P, Q}
-use Rattle.search_theory.proofs.Table.{P-0, P-1, P-2, Q-3, Q-4, Q-5}
-use Rattle.utility.proofs.Cases.{entries-P, entries-Q}
+use Rattle.search_theory.proofs.Table.{p_0, p_1, p_2, q_3, q_4, q_5}
+use Rattle.utility.proofs.Cases.{entries_p, entries_q}
 use Rattle.search_answer.specs.declared.Searched.{Searched}
 use Rattle.search_answer.specs.declared.Searched.TheVariants.{Refused, Found}
 use Rattle.search_answer.specs.Lent.{Lent, lent}
-use Rattle.search_answer.specs.Search.{listingOf, setsOf, made_of}
-use Rattle.search_answer.proofs.Refusals.{none-met, sets-14, sets-23}
+use Rattle.search_answer.specs.Search.{listing_of, sets_of, made_of}
+use Rattle.search_answer.proofs.Refusals.{none_met, sets_14, sets_23}
 
 -- lists of m pairs, n node entries, six utility entries and p steps
 abbrev lists : ℕ → ℕ → ℕ → Lent
@@ -24,68 +24,68 @@ lists m n p =
 abbrev figures : ℕ → ℕ → ℕ → ℕ → ℕ → ℕ → ℕ → ℕ → Searched
 figures u c g b n e m k = Found (record { utility = u; ceiling = c; cost = g; bound = b; nodes = n; entries = e; pairs = m; steps = k })
 
-ceiling-P : (b : ℕ) → ceiling (P b) ≡ 3
-unfolding ◌and◌ pick value_of holds stateUtility greatestBelow greatestOver ceiling P fact
-ceiling-P b = refl
+ceiling_p : (b : ℕ) → ceiling (P b) ≡ 3
+unfolding ◌and◌ pick value_of holds state_utility greatest_below greatest_over ceiling P fact
+ceiling_p b = refl
 
-bound-P : (b : ℕ) → (P b).bound ≡ b
+bound_p : (b : ℕ) → (P b).bound ≡ b
 unfolding P
-bound-P b = refl
+bound_p b = refl
 
-ceiling-Q : (b : ℕ) → ceiling (Q b) ≡ 7
-unfolding ◌and◌ pick value_of holds stateUtility greatestBelow greatestOver ceiling Q fact
-ceiling-Q b = refl
+ceiling_q : (b : ℕ) → ceiling (Q b) ≡ 7
+unfolding ◌and◌ pick value_of holds state_utility greatest_below greatest_over ceiling Q fact
+ceiling_q b = refl
 
-bound-Q : (b : ℕ) → (Q b).bound ≡ b
+bound_q : (b : ℕ) → (Q b).bound ≡ b
 unfolding Q
-bound-Q b = refl
+bound_q b = refl
 
-pub P-with-0 : made_of (P 0) (lists 1 2 0) ≡ figures 0 3 0 0 2 6 1 0
-unfolding made_of setsOf listingOf pick
-P-with-0 =
-    let none = none-met (P 0) (lists 1 2 0) (omega (arith, P-0.nodes-are)) (omega (arith, P-0.pairs-are)) in
-    rw (entries-P 0, none, P-0.nodes-are, P-0.plan-is, P-0.utility-is, P-0.cost-is, P-0.pairs-are, ceiling-P 0, bound-P 0)
+pub p_with_0 : made_of (P 0) (lists 1 2 0) ≡ figures 0 3 0 0 2 6 1 0
+unfolding made_of sets_of listing_of pick
+p_with_0 =
+    let none = none_met (P 0) (lists 1 2 0) (omega (arith, p_0.nodes_are)) (omega (arith, p_0.pairs_are)) in
+    rw (entries_p 0, none, p_0.nodes_are, p_0.plan_is, p_0.utility_is, p_0.cost_is, p_0.pairs_are, ceiling_p 0, bound_p 0)
 
-pub P-with-1 : made_of (P 1) (lists 2 8 1) ≡ figures 2 3 1 1 8 6 2 1
-unfolding made_of setsOf listingOf pick
-P-with-1 =
-    let none = none-met (P 1) (lists 2 8 1) (omega (arith, P-1.nodes-are)) (omega (arith, P-1.pairs-are)) in
-    rw (entries-P 1, none, P-1.nodes-are, P-1.plan-is, P-1.utility-is, P-1.cost-is, P-1.pairs-are, ceiling-P 1, bound-P 1)
+pub p_with_1 : made_of (P 1) (lists 2 8 1) ≡ figures 2 3 1 1 8 6 2 1
+unfolding made_of sets_of listing_of pick
+p_with_1 =
+    let none = none_met (P 1) (lists 2 8 1) (omega (arith, p_1.nodes_are)) (omega (arith, p_1.pairs_are)) in
+    rw (entries_p 1, none, p_1.nodes_are, p_1.plan_is, p_1.utility_is, p_1.cost_is, p_1.pairs_are, ceiling_p 1, bound_p 1)
 
-pub P-with-2 : made_of (P 2) (lists 3 10 2) ≡ figures 3 3 2 2 10 6 3 2
-unfolding made_of setsOf listingOf pick
-P-with-2 =
-    let none = none-met (P 2) (lists 3 10 2) (omega (arith, P-2.nodes-are)) (omega (arith, P-2.pairs-are)) in
-    rw (entries-P 2, none, P-2.nodes-are, P-2.plan-is, P-2.utility-is, P-2.cost-is, P-2.pairs-are, ceiling-P 2, bound-P 2)
+pub p_with_2 : made_of (P 2) (lists 3 10 2) ≡ figures 3 3 2 2 10 6 3 2
+unfolding made_of sets_of listing_of pick
+p_with_2 =
+    let none = none_met (P 2) (lists 3 10 2) (omega (arith, p_2.nodes_are)) (omega (arith, p_2.pairs_are)) in
+    rw (entries_p 2, none, p_2.nodes_are, p_2.plan_is, p_2.utility_is, p_2.cost_is, p_2.pairs_are, ceiling_p 2, bound_p 2)
 
-pub P-nodes-7 : made_of (P 1) (lists 2 7 1) ≡ Refused 14 0
+pub p_nodes_7 : made_of (P 1) (lists 2 7 1) ≡ Refused 14 0
 unfolding made_of pick
-P-nodes-7 = rw (entries-P 1) (sets-14 (P 1) (lists 2 7 1) (omega (arith, P-1.nodes-are)) (omega (arith, P-1.pairs-are)))
+p_nodes_7 = rw (entries_p 1) (sets_14 (P 1) (lists 2 7 1) (omega (arith, p_1.nodes_are)) (omega (arith, p_1.pairs_are)))
 
-pub P-pairs-1 : made_of (P 1) (lists 1 8 1) ≡ Refused 23 0
+pub p_pairs_1 : made_of (P 1) (lists 1 8 1) ≡ Refused 23 0
 unfolding made_of pick
-P-pairs-1 = rw (entries-P 1) (sets-23 (P 1) (lists 1 8 1) (omega (arith, P-1.nodes-are)) (omega (arith, P-1.pairs-are)))
+p_pairs_1 = rw (entries_p 1) (sets_23 (P 1) (lists 1 8 1) (omega (arith, p_1.nodes_are)) (omega (arith, p_1.pairs_are)))
 
-pub P-plan-0 : made_of (P 1) (lists 2 8 0) ≡ Refused 15 0
-unfolding made_of setsOf pick
-P-plan-0 =
-    let none = none-met (P 1) (lists 2 8 0) (omega (arith, P-1.nodes-are)) (omega (arith, P-1.pairs-are)) in
-    rw (entries-P 1, none, P-1.plan-is)
+pub p_plan_0 : made_of (P 1) (lists 2 8 0) ≡ Refused 15 0
+unfolding made_of sets_of pick
+p_plan_0 =
+    let none = none_met (P 1) (lists 2 8 0) (omega (arith, p_1.nodes_are)) (omega (arith, p_1.pairs_are)) in
+    rw (entries_p 1, none, p_1.plan_is)
 
-pub Q-with-5 : made_of (Q 5) (lists 3 8 1) ≡ figures 7 7 4 5 8 4 3 1
-unfolding made_of setsOf listingOf pick
-Q-with-5 =
-    let none = none-met (Q 5) (lists 3 8 1) (omega (arith, Q-5.nodes-are)) (omega (arith, Q-5.pairs-are)) in
-    rw (entries-Q 5, none, Q-5.nodes-are, Q-5.plan-is, Q-5.utility-is, Q-5.cost-is, Q-5.pairs-are, ceiling-Q 5, bound-Q 5)
+pub q_with_5 : made_of (Q 5) (lists 3 8 1) ≡ figures 7 7 4 5 8 4 3 1
+unfolding made_of sets_of listing_of pick
+q_with_5 =
+    let none = none_met (Q 5) (lists 3 8 1) (omega (arith, q_5.nodes_are)) (omega (arith, q_5.pairs_are)) in
+    rw (entries_q 5, none, q_5.nodes_are, q_5.plan_is, q_5.utility_is, q_5.cost_is, q_5.pairs_are, ceiling_q 5, bound_q 5)
 
-pub Q-with-4 : made_of (Q 4) (lists 3 8 1) ≡ figures 7 7 4 4 8 4 3 1
-unfolding made_of setsOf listingOf pick
-Q-with-4 =
-    let none = none-met (Q 4) (lists 3 8 1) (omega (arith, Q-4.nodes-are)) (omega (arith, Q-4.pairs-are)) in
-    rw (entries-Q 4, none, Q-4.nodes-are, Q-4.plan-is, Q-4.utility-is, Q-4.cost-is, Q-4.pairs-are, ceiling-Q 4, bound-Q 4)
+pub q_with_4 : made_of (Q 4) (lists 3 8 1) ≡ figures 7 7 4 4 8 4 3 1
+unfolding made_of sets_of listing_of pick
+q_with_4 =
+    let none = none_met (Q 4) (lists 3 8 1) (omega (arith, q_4.nodes_are)) (omega (arith, q_4.pairs_are)) in
+    rw (entries_q 4, none, q_4.nodes_are, q_4.plan_is, q_4.utility_is, q_4.cost_is, q_4.pairs_are, ceiling_q 4, bound_q 4)
 
-pub Q-with-3 : made_of (Q 3) (lists 2 5 0) ≡ figures 0 7 0 3 5 4 2 0
-unfolding made_of setsOf listingOf pick
-Q-with-3 =
-    let none = none-met (Q 3) (lists 2 5 0) (omega (arith, Q-3.nodes-are)) (omega (arith, Q-3.pairs-are)) in
-    rw (entries-Q 3, none, Q-3.nodes-are, Q-3.plan-is, Q-3.utility-is, Q-3.cost-is, Q-3.pairs-are, ceiling-Q 3, bound-Q 3)
+pub q_with_3 : made_of (Q 3) (lists 2 5 0) ≡ figures 0 7 0 3 5 4 2 0
+unfolding made_of sets_of listing_of pick
+q_with_3 =
+    let none = none_met (Q 3) (lists 2 5 0) (omega (arith, q_3.nodes_are)) (omega (arith, q_3.pairs_are)) in
+    rw (entries_q 3, none, q_3.nodes_are, q_3.plan_is, q_3.utility_is, q_3.cost_is, q_3.pairs_are, ceiling_q 3, bound_q 3)

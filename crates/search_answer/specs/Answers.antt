@@ -9,10 +9,10 @@ abbrev pub numbers : Searched → ℕ × ℕ
 numbers (Refused number place) = (number, place)
 numbers (Found listing) = (0, 0)
 
-abbrev pub noFigures : Listing
-noFigures = record { utility = 0; ceiling = 0; cost = 0; bound = 0; nodes = 0; entries = 0; pairs = 0; steps = 0 }
+abbrev pub no_figures : Listing
+no_figures = record { utility = 0; ceiling = 0; cost = 0; bound = 0; nodes = 0; entries = 0; pairs = 0; steps = 0 }
 
 -- the figures of the listing, which success adds; all 0 after a refusal
 abbrev pub figures : Searched → Listing
-figures (Refused number place) = noFigures
+figures (Refused number place) = no_figures
 figures (Found listing) = listing

@@ -2,7 +2,7 @@
 ghost use Rattle.std.specs.Prelude.{◌≡◌};
 ghost use Rattle.task.specs.Decode.{task_of};
 ghost use Rattle.search_answer.specs.declared.Searched.TheVariants.{Refused};
-ghost use Rattle.search_answer.specs.Search.{figuresOf};
+ghost use Rattle.search_answer.specs.Search.{figures_of};
 
 use task::header::bound;
 
@@ -43,7 +43,7 @@ pub fn figures(
     entries: usize,
     pairs: usize,
 ) -> Listing
-    ensures { result ≡ figuresOf (task_of file.now) utility ceiling cost nodes entries pairs }
+    ensures { result ≡ figures_of (task_of file.now) utility ceiling cost nodes entries pairs }
 {
     Listing {
         utility,

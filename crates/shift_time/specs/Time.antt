@@ -6,8 +6,8 @@ use Rattle.shift_time.specs.declared.Time.{Time}
 abbrev pub minute : ℕ
 minute = 6
 
-abbrev pub timeOf : ℕ → ℕ → Time
-timeOf cost bound = record { minutes = cost / minute; units = cost % minute; unused = bound - cost }
+abbrev pub time_of : ℕ → ℕ → Time
+time_of cost bound = record { minutes = cost / minute; units = cost % minute; unused = bound - cost }
 
 -- the document's words: units left over are 0 to 5, with six times the minutes they make the cost; unused and cost make the bound
 pub record TellsTime (cost bound : ℕ) (t : Time) : Type 0 where

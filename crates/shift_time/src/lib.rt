@@ -1,6 +1,6 @@
 // The time of a plan as the stand's operators read it. The task counts units of ten seconds.
 ghost use Rattle.std.specs.Prelude.{◌-◌, ◌≡◌};
-ghost use Rattle.shift_time.specs.Time.{timeOf};
+ghost use Rattle.shift_time.specs.Time.{time_of};
 
 // Units in a minute.
 const MINUTE: usize = 6;
@@ -25,7 +25,7 @@ fn unused(cost: usize, bound: usize) -> usize
 
 // The time of a plan of this cost in a shift of this bound.
 pub fn time_of(cost: usize, bound: usize) -> Time
-    ensures { result ≡ timeOf cost bound }
+    ensures { result ≡ time_of cost bound }
 {
     Time {
         minutes: cost / MINUTE,

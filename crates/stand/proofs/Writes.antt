@@ -8,14 +8,14 @@ use native.Mathlib.Numerals.{add-one}
 use lib.ListN.{length, get_or, drop, set, drop_of_length-le}
 use lib.Seq.{drop-cons}
 use Rattle.planning.proofs.Scan.{left}
-use Rattle.stand.specs.Bytes.{overlay, putSizes}
+use Rattle.stand.specs.Bytes.{overlay, put_sizes}
 
 module _ (file₀ bytes : List ℕ) (at : ℕ) where
   abbrev pub Copied : List ℕ → ℕ → Type 0
   Copied file i = overlay file₀ at bytes ≡ overlay file (at + i) (drop i bytes)
 
-  pub copy-none : Copied file₀ 0
-  copy-none = rw add-zero
+  pub copy_none : Copied file₀ 0
+  copy_none = rw add-zero
 
   pub copy_more : (file : List ℕ) (i : ℕ) → i < length bytes → Copied file i → Copied (set file (at + i) (get_or bytes i 0)) (i + 1)
   unfolding overlay
@@ -29,15 +29,15 @@ module _ (file₀ bytes : List ℕ) (at : ℕ) where
 
 module _ (file₀ : List ℕ) (d n : ℕ) where
   abbrev pub Sized : List ℕ → ℕ → Type 0
-  Sized file v = putSizes file₀ d n 0 ≡ putSizes file d (n - v) v
+  Sized file v = put_sizes file₀ d n 0 ≡ put_sizes file d (n - v) v
 
-  pub sizes-none : Sized file₀ 0
-  sizes-none = rw sub-zero
+  pub sizes_none : Sized file₀ 0
+  sizes_none = rw sub-zero
 
-  pub sizes-more : (file : List ℕ) (v : ℕ) → v < n → Sized file v → Sized (set file (28 + 2 * v) d) (v + 1)
-  unfolding putSizes
-  sizes-more file v lt e = e ∙ rw (left n v lt, add-one)
+  pub sizes_more : (file : List ℕ) (v : ℕ) → v < n → Sized file v → Sized (set file (28 + 2 * v) d) (v + 1)
+  unfolding put_sizes
+  sizes_more file v lt e = e ∙ rw (left n v lt, add-one)
 
-  pub sizes-done : (file : List ℕ) (v : ℕ) → n ≤ v → Sized file v → file ≡ putSizes file₀ d n 0
-  unfolding putSizes
-  sizes-done file v ge e = sym (e ∙ ap (λ (m : ℕ). putSizes file d m v) (sub-eq-zero_of_le ge))
+  pub sizes_done : (file : List ℕ) (v : ℕ) → n ≤ v → Sized file v → file ≡ put_sizes file₀ d n 0
+  unfolding put_sizes
+  sizes_done file v ge e = sym (e ∙ ap (λ (m : ℕ). put_sizes file d m v) (sub-eq-zero_of_le ge))

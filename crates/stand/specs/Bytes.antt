@@ -11,6 +11,6 @@ abbrev pub put16 : List ℕ → ℕ → ℕ → List ℕ
 put16 file at x = set (set file at (x % 256)) (at + 1) (x / 256)
 
 -- the n variables from v on get d values each, from byte 28 on
-unfoldable pub putSizes : List ℕ → ℕ → ℕ → ℕ → List ℕ
-putSizes file d zero v = file
-putSizes file d (suc n) v = putSizes (set file (28 + 2 * v) d) d n (suc v)
+unfoldable pub put_sizes : List ℕ → ℕ → ℕ → ℕ → List ℕ
+put_sizes file d zero v = file
+put_sizes file d (suc n) v = put_sizes (set file (28 + 2 * v) d) d n (suc v)

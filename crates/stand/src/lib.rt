@@ -1,7 +1,7 @@
 // The stand's task files P and Q, and the parts to make others from, written to lent bytes; and a refusal's line.
 ghost use Rattle.std.specs.Prelude.{◌≡◌, ◌+◌, ◌<◌, ◌≤◌, length, set, replicate};
-ghost use Rattle.task.specs.Cases.{header, fileP, fileQ, filePlain};
-ghost use Rattle.stand.specs.Bytes.{overlay, put16, putSizes};
+ghost use Rattle.task.specs.Cases.{header, file_p, file_q, file_plain};
+ghost use Rattle.stand.specs.Bytes.{overlay, put16, put_sizes};
 
 // Writes a byte, if there is such a place.
 pub fn set8(file: &mut [u8], at: usize, x: u8)
@@ -36,7 +36,7 @@ pub fn copy(file: &mut [u8], at: usize, bytes: &[u8])
 // Gives the first n variables d values each, from byte 28 on; their starting values stay.
 pub fn variables(file: &mut [u8], n: usize, d: u8)
     requires { n ≤ 64 }
-    ensures { file.new ≡ putSizes file.old d n 0 }
+    ensures { file.new ≡ put_sizes file.old d n 0 }
 {
     let mut v = 0;
     while v < n {
@@ -84,7 +84,7 @@ pub fn header(file: &mut [u8], variables: u16, operators: u16, terms: u16, bound
 
 // The stand's task P: two variables, three operators, two terms.
 pub fn p(file: &mut [u8], bound: u16)
-    ensures { file.old ≡ replicate 164 0 → file.new ≡ fileP bound }
+    ensures { file.old ≡ replicate 164 0 → file.new ≡ file_p bound }
 {
     header(file, 2, 3, 2, bound);
     variables(file, 2, 2);
@@ -97,7 +97,7 @@ pub fn p(file: &mut [u8], bound: u16)
 
 // The stand's task Q: one variable of three values, four operators, one term.
 pub fn q(file: &mut [u8], bound: u16)
-    ensures { file.old ≡ replicate 186 0 → file.new ≡ fileQ bound }
+    ensures { file.old ≡ replicate 186 0 → file.new ≡ file_q bound }
 {
     header(file, 1, 4, 1, bound);
     variables(file, 1, 3);
@@ -110,7 +110,7 @@ pub fn q(file: &mut [u8], bound: u16)
 
 // A task to change bytes of: variables of 3 and 4 values at 28, operators at 32 and 68, a term at 104.
 pub fn plain(file: &mut [u8])
-    ensures { file.old ≡ replicate 116 0 → file.new ≡ filePlain }
+    ensures { file.old ≡ replicate 116 0 → file.new ≡ file_plain }
 {
     header(file, 2, 2, 1, 5);
     copy(file, 28, b"\x03\x01\x04\x00");

@@ -5,14 +5,14 @@ use mathlib.Core.Bool.{true, false}
 use mathlib.Core.List.{List}
 use lib.ListN.{length}
 use Rattle.planning.specs.Connectives.{pick}
-use Rattle.task.specs.Check.{checkOf, accepted}
+use Rattle.task.specs.Check.{check_of, accepted}
 use Rattle.task.specs.Decode.{task_of}
-use Rattle.lent_lists.specs.Lists.{listsWrong}
-use Rattle.lent_lists.proofs.Passing.{equal-lengths}
+use Rattle.lent_lists.specs.Lists.{lists_wrong}
+use Rattle.lent_lists.proofs.Passing.{equal_lengths}
 use Rattle.states_answer.specs.declared.Enumerated.{Enumerated}
 use Rattle.states_answer.specs.declared.Enumerated.TheVariants.{Refused}
 use Rattle.states_answer.specs.Lent.{Lent}
-use Rattle.states_answer.specs.States.{listed_of, statesOf}
+use Rattle.states_answer.specs.States.{listed_of, states_of}
 use Rattle.states.specs.Leaves.{Kept, Gives, Enumerates}
 use Rattle.states.specs.Meaning.{Permitted}
 
@@ -21,21 +21,21 @@ kept : (n : ℕ) (l : Lent) → Kept n l l
 kept n l = record { everything = λ _. refl; plan = refl }
 
 module _ (f : List ℕ) (l : Lent) where
-  pub refused-file : (n p : ℕ) → (n, p) ≡ checkOf f → accepted f ≡ false → Enumerates f l l (Refused n p)
-  unfolding statesOf pick
-  refused-file n p e a = record { answers = rw (a, ← e); leaves = kept n l }
+  pub refused_file : (n p : ℕ) → (n, p) ≡ check_of f → accepted f ≡ false → Enumerates f l l (Refused n p)
+  unfolding states_of pick
+  refused_file n p e a = record { answers = rw (a, ← e); leaves = kept n l }
 
   module _ (a : accepted f ≡ true) where
-    pub refused-12 : listsWrong (length l.states) (length l.costs) (length l.steps) ≡ true → Enumerates f l l (Refused 12 0)
-    unfolding statesOf pick
-    refused-12 e = record { answers = rw (a, e); leaves = kept 12 l }
+    pub refused_12 : lists_wrong (length l.states) (length l.costs) (length l.steps) ≡ true → Enumerates f l l (Refused 12 0)
+    unfolding states_of pick
+    refused_12 e = record { answers = rw (a, e); leaves = kept 12 l }
 
-    module _ (right : listsWrong (length l.states) (length l.costs) (length l.steps) ≡ false) where
+    module _ (right : lists_wrong (length l.states) (length l.costs) (length l.steps) ≡ false) where
       pub enumerated : (after : Lent) (r : Enumerated) → Gives (task_of f) (listed_of (task_of f) l) l after r → Enumerates f l after r
-      unfolding statesOf pick
+      unfolding states_of pick
       enumerated after r g = record { answers = rw (a, right) g.answers; leaves = g.leaves }
 
       pub permitted : Permitted f l
       permitted =
-          let n = equal-lengths (length l.states) (length l.costs) (length l.steps) right in
-          record { sound = a; costs-long = sym n.0; steps-long = sym n.1 ∙ sym n.0; short = n.2 }
+          let n = equal_lengths (length l.states) (length l.costs) (length l.steps) right in
+          record { sound = a; costs_long = sym n.0; steps_long = sym n.1 ∙ sym n.0; short = n.2 }

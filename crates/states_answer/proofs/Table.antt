@@ -10,12 +10,12 @@ use Rattle.planning.specs.Model.{Task, value_of, holds, apply}
 use Rattle.planning.specs.Coding.{wide, width, bits}
 use Rattle.planning.specs.Scan.{tab}
 use Rattle.planning.specs.Cases.{fact, P, Q, PlanRow}
-use Rattle.planning.proofs.Cases.{plan-rows}
-use Rattle.states_within.specs.Within.{sameState, anyOperator, reaches, before, joined, allStates, those, statesWithin}
+use Rattle.planning.proofs.Cases.{plan_rows}
+use Rattle.states_within.specs.Within.{same_state, any_operator, reaches, before, joined, all_states, those, states_within}
 use Rattle.states_answer.specs.declared.Enumerated.{Enumerated}
 use Rattle.states_answer.specs.declared.Enumerated.TheVariants.{Refused, Listed}
 use Rattle.states_answer.specs.Lent.{Lent, lent}
-use Rattle.states_answer.specs.States.{bestPlan, stateCount, summaryOf, listed_of}
+use Rattle.states_answer.specs.States.{best_plan, state_count, summary_of, listed_of}
 
 -- lists of n states and p steps, and working lists without an entry
 abbrev lists : ℕ → ℕ → Lent
@@ -25,7 +25,7 @@ abbrev figures : ℕ → ℕ → ℕ → ℕ → ℕ → Enumerated
 figures u g b n k = Listed (record { utility = u; cost = g; bound = b; states = n; steps = k })
 
 -- a task whose states within the bound are these, over any lists
-module _ (t : Task) (l : Lent) {ss : List (List ℕ)} (are : statesWithin t ≡ ss) where
+module _ (t : Task) (l : Lent) {ss : List (List ℕ)} (are : states_within t ≡ ss) where
   -- states and steps fit
   fits :
       {p : List ℕ} {u top c : ℕ}
@@ -33,12 +33,12 @@ module _ (t : Task) (l : Lent) {ss : List (List ℕ)} (are : statesWithin t ≡ 
       → length ss ≤ length l.states
       → length p ≤ length l.plan
       → listed_of t l ≡ figures u c t.bound (length ss) (length p)
-  unfolding listed_of summaryOf stateCount bestPlan pick
+  unfolding listed_of summary_of state_count best_plan pick
   fits {p} r s k = rw (are, r.found, le-ltb (length l.states) (length ss) s, le-ltb (length l.plan) (length p) k, r.utility, r.costs)
 
   -- the states do not, whether the steps do or not
   no_room : length l.states < length ss → listed_of t l ≡ Refused 24 0
-  unfolding listed_of stateCount pick
+  unfolding listed_of state_count pick
   no_room s = rw (are, lt-ltb (length l.states) (length ss) s)
 
   -- the steps do not
@@ -48,74 +48,74 @@ module _ (t : Task) (l : Lent) {ss : List (List ℕ)} (are : statesWithin t ≡ 
       → length ss ≤ length l.states
       → length l.plan < length p
       → listed_of t l ≡ Refused 15 0
-  unfolding listed_of stateCount bestPlan pick
+  unfolding listed_of state_count best_plan pick
   no_steps {p} r s k = rw (are, r.found, le-ltb (length l.states) (length ss) s, lt-ltb (length l.plan) (length p) k)
 
 -- the states within the bound, by trying every sequence
-pub states-are :
-    (statesWithin (P 0) ≡ (0 ∷ 0 ∷ []) ∷ [])
-    × (statesWithin (P 1) ≡ (0 ∷ 0 ∷ []) ∷ (0 ∷ 1 ∷ []) ∷ (1 ∷ 0 ∷ []) ∷ [])
-    × (statesWithin (P 2) ≡ (0 ∷ 0 ∷ []) ∷ (0 ∷ 1 ∷ []) ∷ (1 ∷ 0 ∷ []) ∷ (1 ∷ 1 ∷ []) ∷ [])
-    × (statesWithin (Q 3) ≡ (0 ∷ []) ∷ (1 ∷ []) ∷ [])
-    × (statesWithin (Q 4) ≡ (0 ∷ []) ∷ (1 ∷ []) ∷ (2 ∷ []) ∷ [])
-    × (statesWithin (Q 5) ≡ (0 ∷ []) ∷ (1 ∷ []) ∷ (2 ∷ []) ∷ [])
-unfolding ◌and◌ ◌or◌ pick value_of holds apply tab wide width bits sameState anyOperator reaches before joined allStates those statesWithin fact P Q
-states-are = (refl, refl, refl, refl, refl, refl)
+pub states_are :
+    (states_within (P 0) ≡ (0 ∷ 0 ∷ []) ∷ [])
+    × (states_within (P 1) ≡ (0 ∷ 0 ∷ []) ∷ (0 ∷ 1 ∷ []) ∷ (1 ∷ 0 ∷ []) ∷ [])
+    × (states_within (P 2) ≡ (0 ∷ 0 ∷ []) ∷ (0 ∷ 1 ∷ []) ∷ (1 ∷ 0 ∷ []) ∷ (1 ∷ 1 ∷ []) ∷ [])
+    × (states_within (Q 3) ≡ (0 ∷ []) ∷ (1 ∷ []) ∷ [])
+    × (states_within (Q 4) ≡ (0 ∷ []) ∷ (1 ∷ []) ∷ (2 ∷ []) ∷ [])
+    × (states_within (Q 5) ≡ (0 ∷ []) ∷ (1 ∷ []) ∷ (2 ∷ []) ∷ [])
+unfolding ◌and◌ ◌or◌ pick value_of holds apply tab wide width bits same_state any_operator reaches before joined all_states those states_within fact P Q
+states_are = (refl, refl, refl, refl, refl, refl)
 
-pub P-with-0 : listed_of (P 0) (lists 1 0) ≡ figures 0 0 0 1 0
+pub p_with_0 : listed_of (P 0) (lists 1 0) ≡ figures 0 0 0 1 0
 unfolding P
-P-with-0 = fits (P 0) (lists 1 0) states-are.0 plan-rows.0 (omega arith) (omega arith)
+p_with_0 = fits (P 0) (lists 1 0) states_are.0 plan_rows.0 (omega arith) (omega arith)
 
-pub P-with-1 : listed_of (P 1) (lists 3 1) ≡ figures 2 1 1 3 1
+pub p_with_1 : listed_of (P 1) (lists 3 1) ≡ figures 2 1 1 3 1
 unfolding P
-P-with-1 = fits (P 1) (lists 3 1) states-are.1 plan-rows.1 (omega arith) (omega arith)
+p_with_1 = fits (P 1) (lists 3 1) states_are.1 plan_rows.1 (omega arith) (omega arith)
 
-pub P-with-2 : listed_of (P 2) (lists 4 2) ≡ figures 3 2 2 4 2
+pub p_with_2 : listed_of (P 2) (lists 4 2) ≡ figures 3 2 2 4 2
 unfolding P
-P-with-2 = fits (P 2) (lists 4 2) states-are.2 plan-rows.2 (omega arith) (omega arith)
+p_with_2 = fits (P 2) (lists 4 2) states_are.2 plan_rows.2 (omega arith) (omega arith)
 
-pub Q-with-3 : listed_of (Q 3) (lists 2 0) ≡ figures 0 0 3 2 0
+pub q_with_3 : listed_of (Q 3) (lists 2 0) ≡ figures 0 0 3 2 0
 unfolding Q
-Q-with-3 = fits (Q 3) (lists 2 0) states-are.3 plan-rows.3 (omega arith) (omega arith)
+q_with_3 = fits (Q 3) (lists 2 0) states_are.3 plan_rows.3 (omega arith) (omega arith)
 
-pub Q-with-4 : listed_of (Q 4) (lists 3 1) ≡ figures 7 4 4 3 1
+pub q_with_4 : listed_of (Q 4) (lists 3 1) ≡ figures 7 4 4 3 1
 unfolding Q
-Q-with-4 = fits (Q 4) (lists 3 1) states-are.4 plan-rows.4 (omega arith) (omega arith)
+q_with_4 = fits (Q 4) (lists 3 1) states_are.4 plan_rows.4 (omega arith) (omega arith)
 
-pub Q-with-5 : listed_of (Q 5) (lists 3 1) ≡ figures 7 4 5 3 1
+pub q_with_5 : listed_of (Q 5) (lists 3 1) ≡ figures 7 4 5 3 1
 unfolding Q
-Q-with-5 = fits (Q 5) (lists 3 1) states-are.5 plan-rows.5 (omega arith) (omega arith)
+q_with_5 = fits (Q 5) (lists 3 1) states_are.5 plan_rows.5 (omega arith) (omega arith)
 
-pub P-0-states-0 : listed_of (P 0) (lists 0 0) ≡ Refused 24 0
-P-0-states-0 = no_room (P 0) (lists 0 0) states-are.0 (omega arith)
+pub p_0_states_0 : listed_of (P 0) (lists 0 0) ≡ Refused 24 0
+p_0_states_0 = no_room (P 0) (lists 0 0) states_are.0 (omega arith)
 
-pub P-1-states-2 : listed_of (P 1) (lists 2 1) ≡ Refused 24 0
-P-1-states-2 = no_room (P 1) (lists 2 1) states-are.1 (omega arith)
+pub p_1_states_2 : listed_of (P 1) (lists 2 1) ≡ Refused 24 0
+p_1_states_2 = no_room (P 1) (lists 2 1) states_are.1 (omega arith)
 
-pub P-2-states-3 : listed_of (P 2) (lists 3 2) ≡ Refused 24 0
-P-2-states-3 = no_room (P 2) (lists 3 2) states-are.2 (omega arith)
+pub p_2_states_3 : listed_of (P 2) (lists 3 2) ≡ Refused 24 0
+p_2_states_3 = no_room (P 2) (lists 3 2) states_are.2 (omega arith)
 
-pub Q-3-states-1 : listed_of (Q 3) (lists 1 0) ≡ Refused 24 0
-Q-3-states-1 = no_room (Q 3) (lists 1 0) states-are.3 (omega arith)
+pub q_3_states_1 : listed_of (Q 3) (lists 1 0) ≡ Refused 24 0
+q_3_states_1 = no_room (Q 3) (lists 1 0) states_are.3 (omega arith)
 
-pub Q-4-states-2 : listed_of (Q 4) (lists 2 1) ≡ Refused 24 0
-Q-4-states-2 = no_room (Q 4) (lists 2 1) states-are.4 (omega arith)
+pub q_4_states_2 : listed_of (Q 4) (lists 2 1) ≡ Refused 24 0
+q_4_states_2 = no_room (Q 4) (lists 2 1) states_are.4 (omega arith)
 
-pub Q-5-states-2 : listed_of (Q 5) (lists 2 1) ≡ Refused 24 0
-Q-5-states-2 = no_room (Q 5) (lists 2 1) states-are.5 (omega arith)
+pub q_5_states_2 : listed_of (Q 5) (lists 2 1) ≡ Refused 24 0
+q_5_states_2 = no_room (Q 5) (lists 2 1) states_are.5 (omega arith)
 
 -- 24 before 15
-pub P-1-both-short : listed_of (P 1) (lists 2 0) ≡ Refused 24 0
-P-1-both-short = no_room (P 1) (lists 2 0) states-are.1 (omega arith)
+pub p_1_both_short : listed_of (P 1) (lists 2 0) ≡ Refused 24 0
+p_1_both_short = no_room (P 1) (lists 2 0) states_are.1 (omega arith)
 
-pub P-1-steps-0 : listed_of (P 1) (lists 3 0) ≡ Refused 15 0
-P-1-steps-0 = no_steps (P 1) (lists 3 0) states-are.1 plan-rows.1 (omega arith) (omega arith)
+pub p_1_steps_0 : listed_of (P 1) (lists 3 0) ≡ Refused 15 0
+p_1_steps_0 = no_steps (P 1) (lists 3 0) states_are.1 plan_rows.1 (omega arith) (omega arith)
 
-pub P-2-steps-1 : listed_of (P 2) (lists 4 1) ≡ Refused 15 0
-P-2-steps-1 = no_steps (P 2) (lists 4 1) states-are.2 plan-rows.2 (omega arith) (omega arith)
+pub p_2_steps_1 : listed_of (P 2) (lists 4 1) ≡ Refused 15 0
+p_2_steps_1 = no_steps (P 2) (lists 4 1) states_are.2 plan_rows.2 (omega arith) (omega arith)
 
-pub Q-4-steps-0 : listed_of (Q 4) (lists 3 0) ≡ Refused 15 0
-Q-4-steps-0 = no_steps (Q 4) (lists 3 0) states-are.4 plan-rows.4 (omega arith) (omega arith)
+pub q_4_steps_0 : listed_of (Q 4) (lists 3 0) ≡ Refused 15 0
+q_4_steps_0 = no_steps (Q 4) (lists 3 0) states_are.4 plan_rows.4 (omega arith) (omega arith)
 
-pub Q-5-steps-0 : listed_of (Q 5) (lists 3 0) ≡ Refused 15 0
-Q-5-steps-0 = no_steps (Q 5) (lists 3 0) states-are.5 plan-rows.5 (omega arith) (omega arith)
+pub q_5_steps_0 : listed_of (Q 5) (lists 3 0) ≡ Refused 15 0
+q_5_steps_0 = no_steps (Q 5) (lists 3 0) states_are.5 plan_rows.5 (omega arith) (omega arith)

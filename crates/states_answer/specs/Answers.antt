@@ -9,10 +9,10 @@ abbrev pub numbers : Enumerated → ℕ × ℕ
 numbers (Refused number place) = (number, place)
 numbers (Listed summary) = (0, 0)
 
-abbrev pub noFigures : Summary
-noFigures = record { utility = 0; cost = 0; bound = 0; states = 0; steps = 0 }
+abbrev pub no_figures : Summary
+no_figures = record { utility = 0; cost = 0; bound = 0; states = 0; steps = 0 }
 
 -- the figures, which success adds; all 0 after a refusal
 abbrev pub figures : Enumerated → Summary
-figures (Refused number place) = noFigures
+figures (Refused number place) = no_figures
 figures (Listed summary) = summary

@@ -10,54 +10,54 @@ use lib.ListN.{get_or}
 use Rattle.planning.specs.Connectives.{pick}
 use Rattle.planning.proofs.Guards.{pick_yes, pick_no}
 use Rattle.states_moves.specs.Words.{meets}
-use Rattle.states_worth.specs.Worth.{weightAt, careAt, value_at, gainAt, worthOf, Weighed, Greatest}
+use Rattle.states_worth.specs.Worth.{weight_at, care_at, value_at, gain_at, worth_of, Weighed, Greatest}
 
 module _ (table : List ℕ) (j s : ℕ) where
   -- the term's facts hold, or not
-  pub gain-yes : (b : Bool) → b ≡ meets (get_or table (3 * j + 1) 0) (get_or table (3 * j + 2) 0) s → b ≡ true → get_or table (3 * j) 0 ≡ gainAt table j s
-  unfolding gainAt weightAt careAt value_at
-  gain-yes b e h = pick_yes _ _ _ _ (sym e ∙ h) refl
+  pub gain_yes : (b : Bool) → b ≡ meets (get_or table (3 * j + 1) 0) (get_or table (3 * j + 2) 0) s → b ≡ true → get_or table (3 * j) 0 ≡ gain_at table j s
+  unfolding gain_at weight_at care_at value_at
+  gain_yes b e h = pick_yes _ _ _ _ (sym e ∙ h) refl
 
-  pub gain-no : (b : Bool) → b ≡ meets (get_or table (3 * j + 1) 0) (get_or table (3 * j + 2) 0) s → b ≡ false → 0 ≡ gainAt table j s
-  unfolding gainAt weightAt careAt value_at
-  gain-no b e h = pick_no _ _ _ _ (sym e ∙ h) refl
+  pub gain_no : (b : Bool) → b ≡ meets (get_or table (3 * j + 1) 0) (get_or table (3 * j + 2) 0) s → b ≡ false → 0 ≡ gain_at table j s
+  unfolding gain_at weight_at care_at value_at
+  gain_no b e h = pick_no _ _ _ _ (sym e ∙ h) refl
 
   -- a term is worth its weight at most
-  gain-most : gainAt table j s ≤ weightAt table j
-  unfolding gainAt pick
-  gain-most = by (meets (careAt table j) (value_at table j) s)
+  gain_most : gain_at table j s ≤ weight_at table j
+  unfolding gain_at pick
+  gain_most = by (meets (care_at table j) (value_at table j) s)
     where
-      by : (b : Bool) → pick b (weightAt table j) 0 ≤ weightAt table j
+      by : (b : Bool) → pick b (weight_at table j) 0 ≤ weight_at table j
       by true = omega arith
       by false = omega arith
 
 module _ (table : List ℕ) (n s : ℕ) where
   -- the sum of the first j of n terms
   abbrev pub SumTo : ℕ → ℕ → Type 0
-  SumTo sum j = (j ≤ n) × (sum ≡ worthOf table j s) × (sum ≤ 65535 * j)
+  SumTo sum j = (j ≤ n) × (sum ≡ worth_of table j s) × (sum ≤ 65535 * j)
 
-  pub sum-none : SumTo 0 0
-  unfolding worthOf
-  sum-none = (omega arith, refl, omega arith)
+  pub sum_none : SumTo 0 0
+  unfolding worth_of
+  sum_none = (omega arith, refl, omega arith)
 
-  pub sum_more : (sum j more : ℕ) → Weighed table n → j < n → SumTo sum j → more ≡ gainAt table j s → SumTo (sum + more) (j + 1)
-  unfolding worthOf
+  pub sum_more : (sum j more : ℕ) → Weighed table n → j < n → SumTo sum j → more ≡ gain_at table j s → SumTo (sum + more) (j + 1)
+  unfolding worth_of
   sum_more sum j more h lt inv e =
-      (omega arith, rw (inv.1, e, add-one), omega (arith, gain-most table j s, h.small j lt))
+      (omega arith, rw (inv.1, e, add-one), omega (arith, gain_most table j s, h.small j lt))
 
   -- so the sum fits
-  pub gain-small : (j more : ℕ) → Weighed table n → j < n → more ≡ gainAt table j s → more ≤ 65535
-  gain-small j more h lt e = omega (arith, gain-most table j s, h.small j lt)
+  pub gain_small : (j more : ℕ) → Weighed table n → j < n → more ≡ gain_at table j s → more ≤ 65535
+  gain_small j more h lt e = omega (arith, gain_most table j s, h.small j lt)
 
-  pub sum_done : (sum j : ℕ) → Weighed table n → n ≤ j → SumTo sum j → (sum ≡ worthOf table n s) × (sum < 16777216)
+  pub sum_done : (sum j : ℕ) → Weighed table n → n ≤ j → SumTo sum j → (sum ≡ worth_of table n s) × (sum < 16777216)
   sum_done sum j h le inv =
       let e : j ≡ n = omega arith in
-      (inv.1 ∙ ap (λ (k : ℕ). worthOf table k s) e, omega (arith, h.few))
+      (inv.1 ∙ ap (λ (k : ℕ). worth_of table k s) e, omega (arith, h.few))
 
 -- ---- the greatest of the first i states
 module _ (table : List ℕ) (n : ℕ) (states : List ℕ) where
   abbrev value : ℕ → ℕ
-  value i = worthOf table n (get_or states i 0)
+  value i = worth_of table n (get_or states i 0)
 
   abbrev pub TopOf : ℕ → ℕ → ℕ → Type 0
   TopOf i u k = Greatest table n states i record { utility = u; at = k }
@@ -72,8 +72,8 @@ module _ (table : List ℕ) (n : ℕ) (states : List ℕ) where
       }
 
   module _ (i u k v : ℕ) (top : TopOf i u k) (e : v ≡ value i) where
-    pub top-new : u < v → TopOf (i + 1) v i
-    top-new lt =
+    pub top_new : u < v → TopOf (i + 1) v i
+    top_new lt =
         record {
           below = omega arith;
           attains = sym e;
@@ -81,8 +81,8 @@ module _ (table : List ℕ) (n : ℕ) (states : List ℕ) where
           first = λ h l. omega (arith, top.most h l);
         }
 
-    pub top-old : v ≤ u → TopOf (i + 1) u k
-    top-old le =
+    pub top_old : v ≤ u → TopOf (i + 1) u k
+    top_old le =
         record {
           below = omega (arith, top.below);
           attains = top.attains;
@@ -90,5 +90,5 @@ module _ (table : List ℕ) (n : ℕ) (states : List ℕ) where
           first = top.first;
         }
 
-  pub top-all : (i count u k : ℕ) → i ≡ count → TopOf i u k → TopOf count u k
-  top-all i count u k e top = rw e at top
+  pub top_all : (i count u k : ℕ) → i ≡ count → TopOf i u k → TopOf count u k
+  top_all i count u k e top = rw e at top

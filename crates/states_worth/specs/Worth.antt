@@ -1,43 +1,43 @@
 -- The utility of a state that is a word, from a table of the terms: three words for each term, its weight, and care and value of its facts.
 use Rattle.std.specs.Prelude.{ℕ, zero, suc, ◌+◌, ◌*◌, ◌≤◌, ◌<◌, ◌≡◌, List, length, get_or}
 use Rattle.planning.specs.Connectives.{pick}
-use Rattle.planning.specs.Coding.{careWord, valueWord, factsLits}
+use Rattle.planning.specs.Coding.{care_word, value_word, facts_lits}
 use Rattle.states_moves.specs.Words.{meets}
 use Rattle.task.specs.Format.{terms}
-use Rattle.task.specs.Decode.{termIn, sizes}
+use Rattle.task.specs.Decode.{term_in, sizes}
 use Rattle.states_worth.specs.declared.Top.{Top}
 
 module _ (table : List ℕ) (j : ℕ) where
-  unfoldable pub weightAt : ℕ
-  weightAt = get_or table (3 * j) 0
+  unfoldable pub weight_at : ℕ
+  weight_at = get_or table (3 * j) 0
 
-  unfoldable pub careAt : ℕ
-  careAt = get_or table (3 * j + 1) 0
+  unfoldable pub care_at : ℕ
+  care_at = get_or table (3 * j + 1) 0
 
   unfoldable pub value_at : ℕ
   value_at = get_or table (3 * j + 2) 0
 
 -- what term j is worth in s
-unfoldable pub gainAt : List ℕ → ℕ → ℕ → ℕ
-gainAt table j s = pick (meets (careAt table j) (value_at table j) s) (weightAt table j) 0
+unfoldable pub gain_at : List ℕ → ℕ → ℕ → ℕ
+gain_at table j s = pick (meets (care_at table j) (value_at table j) s) (weight_at table j) 0
 
 -- the sum of the weights of the first n terms whose facts all hold in s
-unfoldable pub worthOf : List ℕ → ℕ → ℕ → ℕ
-worthOf table zero s = 0
-worthOf table (suc n) s = worthOf table n s + gainAt table n s
+unfoldable pub worth_of : List ℕ → ℕ → ℕ → ℕ
+worth_of table zero s = 0
+worth_of table (suc n) s = worth_of table n s + gain_at table n s
 
 -- the table has n terms, and their weights are numbers of two bytes
 pub record Weighed (table : List ℕ) (n : ℕ) : Type 0 where
   pub long : 3 * n ≤ length table
   pub few : n ≤ 256
-  pub small : (j : ℕ) → j < n → weightAt table j < 65536
+  pub small : (j : ℕ) → j < n → weight_at table j < 65536
 
 -- row j of the table holds term j of the file
 pub record TermRow (file table : List ℕ) (j : ℕ) : Type 0 where
-  pub weight : weightAt table j ≡ (termIn file j).weight
-  pub small : weightAt table j < 65536
-  pub care : careAt table j ≡ careWord (factsLits (sizes file) (termIn file j).facts)
-  pub value : value_at table j ≡ valueWord (factsLits (sizes file) (termIn file j).facts)
+  pub weight : weight_at table j ≡ (term_in file j).weight
+  pub small : weight_at table j < 65536
+  pub care : care_at table j ≡ care_word (facts_lits (sizes file) (term_in file j).facts)
+  pub value : value_at table j ≡ value_word (facts_lits (sizes file) (term_in file j).facts)
 
 -- there is a row for each term of the file
 pub record TermsTabled (file table : List ℕ) : Type 0 where
@@ -47,6 +47,6 @@ pub record TermsTabled (file table : List ℕ) : Type 0 where
 -- the greatest utility of the first `count` states, and the first state that has it
 pub record Greatest (table : List ℕ) (n : ℕ) (states : List ℕ) (count : ℕ) (r : Top) : Type 0 where
   pub below : r.at < count
-  pub attains : worthOf table n (get_or states r.at 0) ≡ r.utility
-  pub most : (i : ℕ) → i < count → worthOf table n (get_or states i 0) ≤ r.utility
-  pub first : (i : ℕ) → i < r.at → worthOf table n (get_or states i 0) < r.utility
+  pub attains : worth_of table n (get_or states r.at 0) ≡ r.utility
+  pub most : (i : ℕ) → i < count → worth_of table n (get_or states i 0) ≤ r.utility
+  pub first : (i : ℕ) → i < r.at → worth_of table n (get_or states i 0) < r.utility

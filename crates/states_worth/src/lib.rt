@@ -2,7 +2,7 @@
 ghost use Rattle.std.specs.Prelude.{◌≡◌, true, ℕ, ◌+◌, ◌*◌, ◌≤◌, ◌<◌, length, get_or};
 ghost use Rattle.task.specs.Format.{terms};
 ghost use Rattle.task.specs.Check.{accepted};
-ghost use Rattle.states_worth.specs.Worth.{gainAt, worthOf, Weighed, TermRow, TermsTabled, Greatest};
+ghost use Rattle.states_worth.specs.Worth.{gain_at, worth_of, Weighed, TermRow, TermsTabled, Greatest};
 
 use states_moves::meets;
 use task::header::terms;
@@ -39,7 +39,7 @@ pub fn tabulate(file: &[u8], table: &mut [u64])
 // What term j is worth in s.
 fn gain(table: &[u64], j: usize, s: u64) -> u64
     requires { 3 * j + 3 ≤ length table.now }
-    ensures { result ≡ gainAt table.now j s }
+    ensures { result ≡ gain_at table.now j s }
 {
     if meets(s, table[TERM * j + 1], table[TERM * j + 2]) {
         table[TERM * j]
@@ -51,7 +51,7 @@ fn gain(table: &[u64], j: usize, s: u64) -> u64
 // The utility of s, by the first n terms of the table.
 pub fn worth(table: &[u64], n: usize, s: u64) -> u64
     requires { Weighed table.now n }
-    ensures { (result ≡ worthOf table.now n s) × (result < 16777216) }
+    ensures { (result ≡ worth_of table.now n s) × (result < 16777216) }
 {
     let mut sum: u64 = 0;
     let mut j = 0;

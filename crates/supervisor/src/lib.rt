@@ -1,15 +1,15 @@
 // The file check, the writer, the walk, the search, the question and the engine that lists states for callers in C; include/laurelsnap.h describes them there.
 ghost use Rattle.std.specs.Prelude.{◌≡◌, length};
-ghost use Rattle.task.specs.Check.{checkOf};
-ghost use Rattle.writer.specs.Write.{writeOf, leaves};
+ghost use Rattle.task.specs.Check.{check_of};
+ghost use Rattle.writer.specs.Write.{write_of, leaves};
 ghost use Rattle.writer.specs.Answers.{numbers as writeNumbers};
 ghost use Rattle.walk.specs.Walk.{walk_of};
 ghost use Rattle.walk.specs.Answers.{numbers as walkNumbers};
 ghost use Rattle.search_answer.specs.Lent.{lent};
-ghost use Rattle.states_answer.specs.Lent.{lent as stateLists};
-ghost use Rattle.question.specs.Question.{questionOf};
+ghost use Rattle.states_answer.specs.Lent.{lent as state_lists};
+ghost use Rattle.question.specs.Question.{question_of};
 ghost use Rattle.question.specs.Answers.{numbers as questionNumbers};
-ghost use Rattle.reports.specs.Reported.{reported, placed, checkNumbers};
+ghost use Rattle.reports.specs.Reported.{reported, placed, check_numbers};
 ghost use Rattle.supervisor.specs.Reports.{Reports, ReportsStates};
 
 use question::question;
@@ -25,7 +25,7 @@ use writer::write;
 // The file check: 0, or the refusal's number and value.
 #[unsafe(no_mangle)]
 pub extern "C" fn laurelsnap_check(file: &[u8]) -> Report
-    ensures { reported result ≡ checkNumbers (checkOf file.now) }
+    ensures { reported result ≡ check_numbers (check_of file.now) }
 {
     of_check(check(file))
 }
@@ -36,7 +36,7 @@ pub extern "C" fn laurelsnap_write(file: &[u8], out: &mut [u8]) -> Report
     ensures { let f = file.now in
         let before = out.old in
         let after = out.new in
-        let answer = writeOf f (length before) in
+        let answer = write_of f (length before) in
         (reported result ≡ writeNumbers answer) × (after ≡ leaves answer f before) }
 {
     of_write(write(file, out))
@@ -96,7 +96,7 @@ pub extern "C" fn laurelsnap_question(
     count: usize,
     pairs: usize,
 ) -> Place
-    ensures { let answer = questionOf file.now state.now
+    ensures { let answer = question_of file.now state.now
         costs.now steps.now sets.now wanted.now bit.now low.now high.now count pairs in
         placed result ≡ questionNumbers answer }
 {
@@ -116,8 +116,8 @@ pub extern "C" fn laurelsnap_states(
     links: &mut [u32],
     plan: &mut [u16],
 ) -> Tally
-    ensures { let before = stateLists states.old costs.old steps.old heads.old links.old plan.old in
-        let after = stateLists states.new costs.new steps.new heads.new links.new plan.new in
+    ensures { let before = state_lists states.old costs.old steps.old heads.old links.old plan.old in
+        let after = state_lists states.new costs.new steps.new heads.new links.new plan.new in
         ReportsStates file.now before after result }
 {
     of_states(list_states(file, states, costs, steps, heads, links, plan))

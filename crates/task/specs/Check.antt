@@ -2,151 +2,151 @@
 use Rattle.std.specs.Prelude.{ℕ, ◌+◌, ◌-◌, ◌*◌, Bool, List, length, leb, ltb, eqb}
 use Rattle.planning.specs.Connectives.{◌and◌, ◌or◌, pick}
 use Rattle.planning.specs.Coding.{bits}
-use Rattle.task.specs.Limits.{headerBytes, mostFileBytes, variableBytes, operatorBytes, termBytes, mostVariables, mostOperators, mostTerms, mostBound, leastValues, mostValues, mostCost, operatorPlaces, termPlaces, mostBits}
+use Rattle.task.specs.Limits.{header_bytes, most_file_bytes, variable_bytes, operator_bytes, term_bytes, most_variables, most_operators, most_terms, most_bound, least_values, most_values, most_cost, operator_places, term_places, most_bits}
 use Rattle.task.specs.Bytes.{byte}
-use Rattle.planning.specs.Scan.{firstBad, every}
-use Rattle.task.specs.Format.{letters, variables, operators, terms, bound, variablesAt, operatorsAt, termsAt, fileLength, operatorRecord, termRecord, size, startValue, cost, preconditionCount, effectCount, preconditions, effects, termCount, termZero, termFacts, factVariable, factValue}
+use Rattle.planning.specs.Scan.{first_bad, every}
+use Rattle.task.specs.Format.{letters, variables, operators, terms, bound, variables_at, operators_at, terms_at, file_length, operator_record, term_record, size, start_value, cost, precondition_count, effect_count, preconditions, effects, term_count, term_zero, term_facts, fact_variable, fact_value}
 use Rattle.task.specs.Decode.{sizes}
 
 -- ---- 3: the first four bytes are the letters BPT1
-unfoldable pub letterRight : List ℕ → ℕ → Bool
-letterRight f i = eqb (byte f i) (byte letters i)
+unfoldable pub letter_right : List ℕ → ℕ → Bool
+letter_right f i = eqb (byte f i) (byte letters i)
 
-unfoldable pub lettersRight : List ℕ → Bool
-lettersRight f = letterRight f 0 and letterRight f 1 and letterRight f 2 and letterRight f 3
+unfoldable pub letters_right : List ℕ → Bool
+letters_right f = letter_right f 0 and letter_right f 1 and letter_right f 2 and letter_right f 3
 
 -- ---- 4: the length field
-unfoldable pub lengthRight : List ℕ → Bool
-lengthRight f = eqb (fileLength f) (length f)
+unfoldable pub length_right : List ℕ → Bool
+length_right f = eqb (file_length f) (length f)
 
 -- ---- 5: each count and the bound in its range
-unfoldable pub countsRight : List ℕ → Bool
-countsRight f =
+unfoldable pub counts_right : List ℕ → Bool
+counts_right f =
     leb 1 (variables f)
-    and leb (variables f) mostVariables
-    and leb (operators f) mostOperators
-    and leb (terms f) mostTerms
-    and leb (bound f) mostBound
+    and leb (variables f) most_variables
+    and leb (operators f) most_operators
+    and leb (terms f) most_terms
+    and leb (bound f) most_bound
 
 -- ---- 6: the section of n bytes from at stands after the header, in a file of len bytes
-unfoldable pub sectionInside : ℕ → ℕ → ℕ → Bool
-sectionInside len at n = leb headerBytes at and leb (at + n) len
+unfoldable pub section_inside : ℕ → ℕ → ℕ → Bool
+section_inside len at n = leb header_bytes at and leb (at + n) len
 
 -- sections of m bytes from a, and of n bytes from b: one is empty, or ends before the other begins
 unfoldable pub apart : ℕ → ℕ → ℕ → ℕ → Bool
 apart a m b n = eqb m 0 or eqb n 0 or leb (a + m) b or leb (b + n) a
 
-unfoldable pub allInside : List ℕ → Bool
-allInside f =
-    sectionInside (length f) (variablesAt f) (variableBytes * variables f)
-    and sectionInside (length f) (operatorsAt f) (operatorBytes * operators f)
-    and sectionInside (length f) (termsAt f) (termBytes * terms f)
+unfoldable pub all_inside : List ℕ → Bool
+all_inside f =
+    section_inside (length f) (variables_at f) (variable_bytes * variables f)
+    and section_inside (length f) (operators_at f) (operator_bytes * operators f)
+    and section_inside (length f) (terms_at f) (term_bytes * terms f)
 
-unfoldable pub allApart : List ℕ → Bool
-allApart f =
-    apart (variablesAt f) (variableBytes * variables f) (operatorsAt f) (operatorBytes * operators f)
-    and apart (variablesAt f) (variableBytes * variables f) (termsAt f) (termBytes * terms f)
-    and apart (operatorsAt f) (operatorBytes * operators f) (termsAt f) (termBytes * terms f)
+unfoldable pub all_apart : List ℕ → Bool
+all_apart f =
+    apart (variables_at f) (variable_bytes * variables f) (operators_at f) (operator_bytes * operators f)
+    and apart (variables_at f) (variable_bytes * variables f) (terms_at f) (term_bytes * terms f)
+    and apart (operators_at f) (operator_bytes * operators f) (terms_at f) (term_bytes * terms f)
 
 -- ---- the refusals 1 to 6, of the header alone
-unfoldable pub headerFault : List ℕ → ℕ
-headerFault f =
-    pick (ltb (length f) headerBytes) 1
-    (pick (ltb mostFileBytes (length f)) 2
-    (pick (lettersRight f)
-    (pick (lengthRight f)
-    (pick (countsRight f) (pick (allInside f) (pick (allApart f) 0 6) 6) 5)
+unfoldable pub header_fault : List ℕ → ℕ
+header_fault f =
+    pick (ltb (length f) header_bytes) 1
+    (pick (ltb most_file_bytes (length f)) 2
+    (pick (letters_right f)
+    (pick (length_right f)
+    (pick (counts_right f) (pick (all_inside f) (pick (all_apart f) 0 6) 6) 5)
     4)
     3))
 
 -- ---- a row of facts
-unfoldable pub namesVariable : List ℕ → List ℕ → ℕ → Bool
-namesVariable f fs k = ltb (factVariable fs k) (variables f)
+unfoldable pub names_variable : List ℕ → List ℕ → ℕ → Bool
+names_variable f fs k = ltb (fact_variable fs k) (variables f)
 
 unfoldable pub has_value : List ℕ → List ℕ → ℕ → Bool
-has_value f fs k = ltb (factValue fs k) (size f (factVariable fs k))
+has_value f fs k = ltb (fact_value fs k) (size f (fact_variable fs k))
 
 unfoldable pub rises : List ℕ → ℕ → Bool
-rises fs k = eqb k 0 or ltb (factVariable fs (k - 1)) (factVariable fs k)
+rises fs k = eqb k 0 or ltb (fact_variable fs (k - 1)) (fact_variable fs k)
 
 -- in a used place: a variable of the file, a value it has, and a higher number than the fact before
-unfoldable pub usedRight : List ℕ → List ℕ → ℕ → Bool
-usedRight f fs k = namesVariable f fs k and has_value f fs k and rises fs k
+unfoldable pub used_right : List ℕ → List ℕ → ℕ → Bool
+used_right f fs k = names_variable f fs k and has_value f fs k and rises fs k
 
 -- in an unused place: two zero bytes
-unfoldable pub unusedRight : List ℕ → ℕ → Bool
-unusedRight fs k = eqb (factVariable fs k) 0 and eqb (factValue fs k) 0
+unfoldable pub unused_right : List ℕ → ℕ → Bool
+unused_right fs k = eqb (fact_variable fs k) 0 and eqb (fact_value fs k) 0
 
-unfoldable pub factRight : List ℕ → List ℕ → ℕ → ℕ → Bool
-factRight f fs used k = pick (ltb k used) (usedRight f fs k) (unusedRight fs k)
+unfoldable pub fact_right : List ℕ → List ℕ → ℕ → ℕ → Bool
+fact_right f fs used k = pick (ltb k used) (used_right f fs k) (unused_right fs k)
 
 -- the first `used` of so many places are used
-unfoldable pub factsRight : List ℕ → List ℕ → ℕ → ℕ → Bool
-factsRight f fs used places = every (factRight f fs used) places 0
+unfoldable pub facts_right : List ℕ → List ℕ → ℕ → ℕ → Bool
+facts_right f fs used places = every (fact_right f fs used) places 0
 
 -- ---- 7: a variable's record
-unfoldable pub variableRight : List ℕ → ℕ → Bool
-variableRight f v =
-    leb leastValues (size f v) and leb (size f v) mostValues and ltb (startValue f v) (size f v)
+unfoldable pub variable_right : List ℕ → ℕ → Bool
+variable_right f v =
+    leb least_values (size f v) and leb (size f v) most_values and ltb (start_value f v) (size f v)
 
 -- ---- 9: an operator's record r
-unfoldable pub costRight : List ℕ → Bool
-costRight r = leb (cost r) mostCost
+unfoldable pub cost_right : List ℕ → Bool
+cost_right r = leb (cost r) most_cost
 
-unfoldable pub factCountsRight : List ℕ → Bool
-factCountsRight r = leb (preconditionCount r) operatorPlaces and leb (effectCount r) operatorPlaces
+unfoldable pub fact_counts_right : List ℕ → Bool
+fact_counts_right r = leb (precondition_count r) operator_places and leb (effect_count r) operator_places
 
-unfoldable pub preconditionsRight : List ℕ → List ℕ → Bool
-preconditionsRight f r = factsRight f (preconditions r) (preconditionCount r) operatorPlaces
+unfoldable pub preconditions_right : List ℕ → List ℕ → Bool
+preconditions_right f r = facts_right f (preconditions r) (precondition_count r) operator_places
 
-unfoldable pub effectsRight : List ℕ → List ℕ → Bool
-effectsRight f r = factsRight f (effects r) (effectCount r) operatorPlaces
+unfoldable pub effects_right : List ℕ → List ℕ → Bool
+effects_right f r = facts_right f (effects r) (effect_count r) operator_places
 
-unfoldable pub operatorRecordRight : List ℕ → List ℕ → Bool
-operatorRecordRight f r = costRight r and factCountsRight r and preconditionsRight f r and effectsRight f r
+unfoldable pub operator_record_right : List ℕ → List ℕ → Bool
+operator_record_right f r = cost_right r and fact_counts_right r and preconditions_right f r and effects_right f r
 
-unfoldable pub operatorRight : List ℕ → ℕ → Bool
-operatorRight f o = operatorRecordRight f (operatorRecord f o)
+unfoldable pub operator_right : List ℕ → ℕ → Bool
+operator_right f o = operator_record_right f (operator_record f o)
 
 -- ---- 10: a term's record r
-unfoldable pub termCountsRight : List ℕ → Bool
-termCountsRight r = leb (termCount r) termPlaces and eqb (termZero r) 0
+unfoldable pub term_counts_right : List ℕ → Bool
+term_counts_right r = leb (term_count r) term_places and eqb (term_zero r) 0
 
-unfoldable pub termFactsRight : List ℕ → List ℕ → Bool
-termFactsRight f r = factsRight f (termFacts r) (termCount r) termPlaces
+unfoldable pub term_facts_right : List ℕ → List ℕ → Bool
+term_facts_right f r = facts_right f (term_facts r) (term_count r) term_places
 
-unfoldable pub termRecordRight : List ℕ → List ℕ → Bool
-termRecordRight f r = termCountsRight r and termFactsRight f r
+unfoldable pub term_record_right : List ℕ → List ℕ → Bool
+term_record_right f r = term_counts_right r and term_facts_right f r
 
-unfoldable pub termRight : List ℕ → ℕ → Bool
-termRight f t = termRecordRight f (termRecord f t)
+unfoldable pub term_right : List ℕ → ℕ → Bool
+term_right f t = term_record_right f (term_record f t)
 
 -- ---- the first record of each kind that is against the rules, or their number
-abbrev pub firstBadVariable : List ℕ → ℕ
-firstBadVariable f = firstBad (variableRight f) (variables f) 0
+abbrev pub first_bad_variable : List ℕ → ℕ
+first_bad_variable f = first_bad (variable_right f) (variables f) 0
 
-abbrev pub firstBadOperator : List ℕ → ℕ
-firstBadOperator f = firstBad (operatorRight f) (operators f) 0
+abbrev pub first_bad_operator : List ℕ → ℕ
+first_bad_operator f = first_bad (operator_right f) (operators f) 0
 
-abbrev pub firstBadTerm : List ℕ → ℕ
-firstBadTerm f = firstBad (termRight f) (terms f) 0
+abbrev pub first_bad_term : List ℕ → ℕ
+first_bad_term f = first_bad (term_right f) (terms f) 0
 
 -- ---- all ten, in order: the tests from the terms on, from the operators on, and so forth
-abbrev pub checkTerms : List ℕ → ℕ × ℕ
-checkTerms f = pick (eqb (firstBadTerm f) (terms f)) (0, 0) (10, firstBadTerm f)
+abbrev pub check_terms : List ℕ → ℕ × ℕ
+check_terms f = pick (eqb (first_bad_term f) (terms f)) (0, 0) (10, first_bad_term f)
 
-abbrev pub checkOperators : List ℕ → ℕ × ℕ
-checkOperators f = pick (eqb (firstBadOperator f) (operators f)) (checkTerms f) (9, firstBadOperator f)
+abbrev pub check_operators : List ℕ → ℕ × ℕ
+check_operators f = pick (eqb (first_bad_operator f) (operators f)) (check_terms f) (9, first_bad_operator f)
 
-abbrev pub checkBits : List ℕ → ℕ × ℕ
-checkBits f = pick (leb (bits (sizes f)) mostBits) (checkOperators f) (8, 0)
+abbrev pub check_bits : List ℕ → ℕ × ℕ
+check_bits f = pick (leb (bits (sizes f)) most_bits) (check_operators f) (8, 0)
 
-abbrev pub checkVariables : List ℕ → ℕ × ℕ
-checkVariables f = pick (eqb (firstBadVariable f) (variables f)) (checkBits f) (7, firstBadVariable f)
+abbrev pub check_variables : List ℕ → ℕ × ℕ
+check_variables f = pick (eqb (first_bad_variable f) (variables f)) (check_bits f) (7, first_bad_variable f)
 
-unfoldable pub checkOf : List ℕ → ℕ × ℕ
-checkOf f = pick (eqb (headerFault f) 0) (checkVariables f) (headerFault f, 0)
+unfoldable pub check_of : List ℕ → ℕ × ℕ
+check_of f = pick (eqb (header_fault f) 0) (check_variables f) (header_fault f, 0)
 
 -- the file passes the check
 unfoldable pub accepted : List ℕ → Bool
-accepted f = eqb (checkOf f).0 0
+accepted f = eqb (check_of f).0 0

@@ -1,6 +1,6 @@
 // The numbers in the header of a task file.
 ghost use Rattle.task.specs.Bytes.{Reads};
-ghost use Rattle.task.specs.Format.{variables, operators, terms, bound, variablesAt, operatorsAt, termsAt};
+ghost use Rattle.task.specs.Format.{variables, operators, terms, bound, variables_at, operators_at, terms_at};
 
 use crate::bytes::{le16, le32};
 
@@ -31,19 +31,19 @@ pub fn bound(file: &[u8]) -> usize
 
 // Where the sections begin.
 pub fn variables_at(file: &[u8]) -> usize
-    ensures { Reads result (variablesAt file.now) 4294967296 }
+    ensures { Reads result (variables_at file.now) 4294967296 }
 {
     le32(file, 12)
 }
 
 pub fn operators_at(file: &[u8]) -> usize
-    ensures { Reads result (operatorsAt file.now) 4294967296 }
+    ensures { Reads result (operators_at file.now) 4294967296 }
 {
     le32(file, 16)
 }
 
 pub fn terms_at(file: &[u8]) -> usize
-    ensures { Reads result (termsAt file.now) 4294967296 }
+    ensures { Reads result (terms_at file.now) 4294967296 }
 {
     le32(file, 20)
 }

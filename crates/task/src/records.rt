@@ -1,7 +1,7 @@
 // The records of a task file: each is the part of the file that holds it, and its fields are read there.
 ghost use Rattle.std.specs.Prelude.{◌≡◌, ◌<◌};
 ghost use Rattle.task.specs.Bytes.{Reads};
-ghost use Rattle.task.specs.Format.{variableRecord, operatorRecord, termRecord, size, startValue, cost, preconditionCount, effectCount, preconditions, effects, weight, termCount, termZero, termFacts};
+ghost use Rattle.task.specs.Format.{variable_record, operator_record, term_record, size, start_value, cost, precondition_count, effect_count, preconditions, effects, weight, term_count, term_zero, term_facts};
 
 use crate::bytes::{byte, le16, part};
 use crate::header::{operators_at, terms_at, variables_at};
@@ -12,7 +12,7 @@ use crate::limits::{
 // The record of variable v, of operator o, and of term t.
 fn variable_record(file: &[u8], v: usize) -> &[u8]
     requires { v < 65536 }
-    ensures { result.now ≡ variableRecord file.now v }
+    ensures { result.now ≡ variable_record file.now v }
 {
     part(
         file,
@@ -23,7 +23,7 @@ fn variable_record(file: &[u8], v: usize) -> &[u8]
 
 pub fn operator_record(file: &[u8], o: usize) -> &[u8]
     requires { o < 65536 }
-    ensures { result.now ≡ operatorRecord file.now o }
+    ensures { result.now ≡ operator_record file.now o }
 {
     part(
         file,
@@ -34,7 +34,7 @@ pub fn operator_record(file: &[u8], o: usize) -> &[u8]
 
 pub fn term_record(file: &[u8], t: usize) -> &[u8]
     requires { t < 65536 }
-    ensures { result.now ≡ termRecord file.now t }
+    ensures { result.now ≡ term_record file.now t }
 {
     part(file, terms_at(file) + TERM_BYTES * t, TERM_BYTES)
 }
@@ -50,7 +50,7 @@ pub fn size(file: &[u8], v: usize) -> usize
 // Its starting value.
 pub fn start_value(file: &[u8], v: usize) -> usize
     requires { v < 65536 }
-    ensures { Reads result (startValue file.now v) 256 }
+    ensures { Reads result (start_value file.now v) 256 }
 {
     byte(variable_record(file, v), 1)
 }
@@ -64,14 +64,14 @@ pub fn cost(record: &[u8]) -> usize
 
 // How many of its precondition places are used.
 pub fn precondition_count(record: &[u8]) -> usize
-    ensures { Reads result (preconditionCount «record».now) 256 }
+    ensures { Reads result (precondition_count «record».now) 256 }
 {
     byte(record, 2)
 }
 
 // How many of its effect places are used.
 pub fn effect_count(record: &[u8]) -> usize
-    ensures { Reads result (effectCount «record».now) 256 }
+    ensures { Reads result (effect_count «record».now) 256 }
 {
     byte(record, 3)
 }
@@ -102,21 +102,21 @@ pub fn weight(record: &[u8]) -> usize
 
 // How many of its fact places are used.
 pub fn term_count(record: &[u8]) -> usize
-    ensures { Reads result (termCount «record».now) 256 }
+    ensures { Reads result (term_count «record».now) 256 }
 {
     byte(record, 2)
 }
 
 // The byte behind the count, which is to be zero.
 pub fn term_zero(record: &[u8]) -> usize
-    ensures { Reads result (termZero «record».now) 256 }
+    ensures { Reads result (term_zero «record».now) 256 }
 {
     byte(record, 3)
 }
 
 // The four places of the facts in a term's record.
 pub fn term_facts(record: &[u8]) -> &[u8]
-    ensures { result.now ≡ termFacts «record».now }
+    ensures { result.now ≡ term_facts «record».now }
 {
     part(record, FACTS_AT, 2 * TERM_PLACES)
 }

@@ -1,6 +1,6 @@
 // The file check: refusals 1 to 10, in order.
 ghost use Rattle.std.specs.Prelude.{◌≡◌};
-ghost use Rattle.task.specs.Check.{checkOf, accepted};
+ghost use Rattle.task.specs.Check.{check_of, accepted};
 ghost use Rattle.task_check.specs.Answers.{answer, passed};
 
 use task::coding::bits;
@@ -19,7 +19,7 @@ pub enum Checked {
 
 // Tests the file by the rules 1 to 10, in order.
 pub fn check(file: &[u8]) -> Checked
-    ensures { (answer result ≡ checkOf file.now) × (passed result ≡ accepted file.now) }
+    ensures { (answer result ≡ check_of file.now) × (passed result ≡ accepted file.now) }
 {
     let fault = header_fault(file);
     if fault != 0 {

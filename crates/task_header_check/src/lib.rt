@@ -1,6 +1,6 @@
 // The header of a task file: the refusals 1 to 6.
 ghost use Rattle.std.specs.Prelude.{◌≡◌, ◌<◌, ◌^◌};
-ghost use Rattle.task.specs.Check.{letterRight, lettersRight, lengthRight, countsRight, sectionInside, apart, allInside, allApart, headerFault};
+ghost use Rattle.task.specs.Check.{letter_right, letters_right, length_right, counts_right, section_inside, apart, all_inside, all_apart, header_fault};
 
 use task::bytes::{byte, le32};
 use task::header::{bound, operators, operators_at, terms, terms_at, variables, variables_at};
@@ -11,14 +11,14 @@ use task::limits::{
 
 // The letter at i of BPT1 is the file's.
 fn letter_right(file: &[u8], i: usize) -> bool
-    ensures { result ≡ letterRight file.now i }
+    ensures { result ≡ letter_right file.now i }
 {
     byte(file, i) == byte(b"BPT1", i)
 }
 
 // The first four bytes are the letters BPT1.
 fn letters_right(file: &[u8]) -> bool
-    ensures { result ≡ lettersRight file.now }
+    ensures { result ≡ letters_right file.now }
 {
     letter_right(file, 0)
         && (letter_right(file, 1) && (letter_right(file, 2) && letter_right(file, 3)))
@@ -26,14 +26,14 @@ fn letters_right(file: &[u8]) -> bool
 
 // The length field is the file's length.
 fn length_right(file: &[u8]) -> bool
-    ensures { result ≡ lengthRight file.now }
+    ensures { result ≡ length_right file.now }
 {
     le32(file, 24) == file.len()
 }
 
 // Each count, and the bound, is in its range.
 fn counts_right(file: &[u8]) -> bool
-    ensures { result ≡ countsRight file.now }
+    ensures { result ≡ counts_right file.now }
 {
     let v = variables(file);
     if v < 1 {
@@ -54,7 +54,7 @@ fn counts_right(file: &[u8]) -> bool
 // The section of n bytes from at stands after the header, in a file of len bytes.
 fn section_inside(len: usize, at: usize, n: usize) -> bool
     requires { (at < 2 ^ 32) × (n < 2 ^ 32) }
-    ensures { result ≡ sectionInside len at n }
+    ensures { result ≡ section_inside len at n }
 {
     HEADER_BYTES <= at && at + n <= len
 }
@@ -69,7 +69,7 @@ fn apart(a: usize, m: usize, b: usize, n: usize) -> bool
 
 // Each section, an empty one too, stands after the header and ends within the file.
 fn all_inside(file: &[u8]) -> bool
-    ensures { result ≡ allInside file.now }
+    ensures { result ≡ all_inside file.now }
 {
     section_inside(
         file.len(),
@@ -84,7 +84,7 @@ fn all_inside(file: &[u8]) -> bool
 
 // No two sections that are not empty overlap.
 fn all_apart(file: &[u8]) -> bool
-    ensures { result ≡ allApart file.now }
+    ensures { result ≡ all_apart file.now }
 {
     let v = variables_at(file);
     let vn = VARIABLE_BYTES * variables(file);
@@ -97,7 +97,7 @@ fn all_apart(file: &[u8]) -> bool
 
 // The number of the first refusal that the header gives, or 0.
 pub fn header_fault(file: &[u8]) -> u8
-    ensures { result ≡ headerFault file.now }
+    ensures { result ≡ header_fault file.now }
 {
     if file.len() < HEADER_BYTES {
         return 1;

@@ -1,6 +1,6 @@
 // The rules for a row of facts.
 ghost use Rattle.std.specs.Prelude.{◌≡◌, ◌<◌, ◌≤◌};
-ghost use Rattle.task.specs.Check.{namesVariable, has_value, rises, usedRight, unusedRight, factRight, factsRight};
+ghost use Rattle.task.specs.Check.{names_variable, has_value, rises, used_right, unused_right, fact_right, facts_right};
 
 use task::facts::{fact_value, fact_variable};
 use task::header::variables;
@@ -9,7 +9,7 @@ use task::records::size;
 // In a used place: the variable is one of the file's.
 fn names_variable(file: &[u8], facts: &[u8], k: usize) -> bool
     requires { k < 65536 }
-    ensures { result ≡ namesVariable file.now facts.now k }
+    ensures { result ≡ names_variable file.now facts.now k }
 {
     fact_variable(facts, k) < variables(file)
 }
@@ -33,7 +33,7 @@ fn rises(facts: &[u8], k: usize) -> bool
 // A used place is right.
 fn used_right(file: &[u8], facts: &[u8], k: usize) -> bool
     requires { k < 65536 }
-    ensures { result ≡ usedRight file.now facts.now k }
+    ensures { result ≡ used_right file.now facts.now k }
 {
     names_variable(file, facts, k) && (has_value(file, facts, k) && rises(facts, k))
 }
@@ -41,7 +41,7 @@ fn used_right(file: &[u8], facts: &[u8], k: usize) -> bool
 // An unused place holds two zero bytes.
 fn unused_right(facts: &[u8], k: usize) -> bool
     requires { k < 65536 }
-    ensures { result ≡ unusedRight facts.now k }
+    ensures { result ≡ unused_right facts.now k }
 {
     fact_variable(facts, k) == 0 && fact_value(facts, k) == 0
 }
@@ -49,7 +49,7 @@ fn unused_right(facts: &[u8], k: usize) -> bool
 // Place k of a row is right, where the first places are used.
 fn fact_right(file: &[u8], facts: &[u8], used: usize, k: usize) -> bool
     requires { k < 65536 }
-    ensures { result ≡ factRight file.now facts.now used k }
+    ensures { result ≡ fact_right file.now facts.now used k }
 {
     if k < used {
         used_right(file, facts, k)
@@ -61,7 +61,7 @@ fn fact_right(file: &[u8], facts: &[u8], used: usize, k: usize) -> bool
 // The places of a row of facts, of which the first are used.
 pub fn facts_right(file: &[u8], facts: &[u8], used: usize, places: usize) -> bool
     requires { places ≤ 65536 }
-    ensures { result ≡ factsRight file.now facts.now used places }
+    ensures { result ≡ facts_right file.now facts.now used places }
 {
     let mut k = 0;
     while k < places {

@@ -3,7 +3,7 @@ mod facts;
 
 ghost use Rattle.std.specs.Prelude.{◌≡◌, ◌<◌};
 ghost use Rattle.task.specs.Bytes.{Reads};
-ghost use Rattle.task.specs.Check.{variableRight, costRight, factCountsRight, preconditionsRight, effectsRight, operatorRecordRight, operatorRight, termCountsRight, termFactsRight, termRecordRight, termRight, firstBadVariable, firstBadOperator, firstBadTerm};
+ghost use Rattle.task.specs.Check.{variable_right, cost_right, fact_counts_right, preconditions_right, effects_right, operator_record_right, operator_right, term_counts_right, term_facts_right, term_record_right, term_right, first_bad_variable, first_bad_operator, first_bad_term};
 
 use crate::facts::facts_right;
 use task::header::{operators, terms, variables};
@@ -16,7 +16,7 @@ use task::records::{
 // Two to sixteen values, and a starting value among them.
 fn variable_right(file: &[u8], v: usize) -> bool
     requires { v < 65536 }
-    ensures { result ≡ variableRight file.now v }
+    ensures { result ≡ variable_right file.now v }
 {
     let d = size(file, v);
     LEAST_VALUES <= d && (d <= MOST_VALUES && start_value(file, v) < d)
@@ -24,21 +24,21 @@ fn variable_right(file: &[u8], v: usize) -> bool
 
 // The cost is at most 4,095; it may be 0.
 fn cost_right(record: &[u8]) -> bool
-    ensures { result ≡ costRight «record».now }
+    ensures { result ≡ cost_right «record».now }
 {
     cost(record) <= MOST_COST
 }
 
 // The counts of preconditions and of effects are in their range.
 fn fact_counts_right(record: &[u8]) -> bool
-    ensures { result ≡ factCountsRight «record».now }
+    ensures { result ≡ fact_counts_right «record».now }
 {
     precondition_count(record) <= OPERATOR_PLACES && effect_count(record) <= OPERATOR_PLACES
 }
 
 // The precondition places are right.
 fn preconditions_right(file: &[u8], record: &[u8]) -> bool
-    ensures { result ≡ preconditionsRight file.now «record».now }
+    ensures { result ≡ preconditions_right file.now «record».now }
 {
     facts_right(
         file,
@@ -50,14 +50,14 @@ fn preconditions_right(file: &[u8], record: &[u8]) -> bool
 
 // The effect places are right.
 fn effects_right(file: &[u8], record: &[u8]) -> bool
-    ensures { result ≡ effectsRight file.now «record».now }
+    ensures { result ≡ effects_right file.now «record».now }
 {
     facts_right(file, effects(record), effect_count(record), OPERATOR_PLACES)
 }
 
 // An operator's record is right.
 fn operator_record_right(file: &[u8], record: &[u8]) -> bool
-    ensures { result ≡ operatorRecordRight file.now «record».now }
+    ensures { result ≡ operator_record_right file.now «record».now }
 {
     cost_right(record)
         && (fact_counts_right(record)
@@ -67,28 +67,28 @@ fn operator_record_right(file: &[u8], record: &[u8]) -> bool
 // Operator o's record is right.
 fn operator_right(file: &[u8], o: usize) -> bool
     requires { o < 65536 }
-    ensures { result ≡ operatorRight file.now o }
+    ensures { result ≡ operator_right file.now o }
 {
     operator_record_right(file, operator_record(file, o))
 }
 
 // The count of facts is in its range, and the byte behind it is zero.
 fn term_counts_right(record: &[u8]) -> bool
-    ensures { result ≡ termCountsRight «record».now }
+    ensures { result ≡ term_counts_right «record».now }
 {
     term_count(record) <= TERM_PLACES && term_zero(record) == 0
 }
 
 // The fact places are right.
 fn term_facts_right(file: &[u8], record: &[u8]) -> bool
-    ensures { result ≡ termFactsRight file.now «record».now }
+    ensures { result ≡ term_facts_right file.now «record».now }
 {
     facts_right(file, term_facts(record), term_count(record), TERM_PLACES)
 }
 
 // A term's record is right.
 fn term_record_right(file: &[u8], record: &[u8]) -> bool
-    ensures { result ≡ termRecordRight file.now «record».now }
+    ensures { result ≡ term_record_right file.now «record».now }
 {
     term_counts_right(record) && term_facts_right(file, record)
 }
@@ -96,14 +96,14 @@ fn term_record_right(file: &[u8], record: &[u8]) -> bool
 // Term t's record is right.
 fn term_right(file: &[u8], t: usize) -> bool
     requires { t < 65536 }
-    ensures { result ≡ termRight file.now t }
+    ensures { result ≡ term_right file.now t }
 {
     term_record_right(file, term_record(file, t))
 }
 
 // The first variable whose record breaks the rules, or their number.
 pub fn first_bad_variable(file: &[u8]) -> usize
-    ensures { Reads result (firstBadVariable file.now) 65536 }
+    ensures { Reads result (first_bad_variable file.now) 65536 }
 {
     let n = variables(file);
     let mut v = 0;
@@ -118,7 +118,7 @@ pub fn first_bad_variable(file: &[u8]) -> usize
 
 // The first operator whose record breaks the rules, or their number.
 pub fn first_bad_operator(file: &[u8]) -> usize
-    ensures { Reads result (firstBadOperator file.now) 65536 }
+    ensures { Reads result (first_bad_operator file.now) 65536 }
 {
     let n = operators(file);
     let mut o = 0;
@@ -133,7 +133,7 @@ pub fn first_bad_operator(file: &[u8]) -> usize
 
 // The first term whose record breaks the rules, or their number.
 pub fn first_bad_term(file: &[u8]) -> usize
-    ensures { Reads result (firstBadTerm file.now) 65536 }
+    ensures { Reads result (first_bad_term file.now) 65536 }
 {
     let n = terms(file);
     let mut t = 0;

@@ -1,9 +1,9 @@
 // States: a value for each variable, one byte each, in a lent slice.
 ghost use Rattle.std.specs.Prelude.{◌≡◌, ◌<◌, length, set};
 ghost use Rattle.task.specs.Bytes.{Reads};
-ghost use Rattle.planning.specs.Model.{holds, apply, stateUtility};
+ghost use Rattle.planning.specs.Model.{holds, apply, state_utility};
 ghost use Rattle.planning.specs.Scan.{tab};
-ghost use Rattle.task.specs.Format.{startValue};
+ghost use Rattle.task.specs.Format.{start_value};
 ghost use Rattle.task.specs.Decode.{facts, task_of};
 ghost use Rattle.task_states.specs.States.{met, gain};
 
@@ -25,7 +25,7 @@ fn put(state: &mut [u8], v: usize, x: usize)
 // Writes the starting value of each variable that the state has room for.
 pub fn start(file: &[u8], state: &mut [u8])
     requires { length state.old < 65536 }
-    ensures { state.new ≡ tab (startValue file.now) (length state.old) 0 }
+    ensures { state.new ≡ tab (start_value file.now) (length state.old) 0 }
 {
     let mut v = 0;
     while v < state.len() {
@@ -84,7 +84,7 @@ fn gain(file: &[u8], state: &[u8], t: usize) -> usize
 
 // The utility of the state: the sum of the weights of the terms that hold in it.
 pub fn utility(file: &[u8], state: &[u8]) -> usize
-    ensures { result ≡ stateUtility (task_of file.now).terms state.now }
+    ensures { result ≡ state_utility (task_of file.now).terms state.now }
 {
     let n = terms(file);
     let mut sum: usize = 0;

@@ -8,44 +8,44 @@ use native.Mathlib.Omega.{arith}
 use lib.ListN.{get_or}
 use lib.Dec.{ltb}
 use borrow.Author.Tests.{ltb-true, ltb-false, eq-eqb, ne_eqb}
-use Rattle.diagrams.specs.Tree.{Tree, none, all, node, named, Canon, lowT, highT}
+use Rattle.diagrams.specs.Tree.{Tree, none, all, node, named, Canon, low_t, high_t}
 use Rattle.diagrams.specs.Store.{Table, tree, Store}
 use Rattle.diagrams.specs.Memo.{Memo}
 use Rattle.diagrams.specs.declared.Split.{Split}
 use Rattle.diagrams.proofs.Trees.{test, no_both}
-use Rattle.diagrams.proofs.Entries.{tree-canon}
+use Rattle.diagrams.proofs.Entries.{tree_canon}
 use Rattle.diagrams.proofs.Applies.{lead}
-use Rattle.diagrams.proofs.Children.{tree-inner}
-use Rattle.diagrams.proofs.Memos.{memo-extends}
-use Rattle.utility.specs.Within.{withinT}
+use Rattle.diagrams.proofs.Children.{tree_inner}
+use Rattle.diagrams.proofs.Memos.{memo_extends}
+use Rattle.utility.specs.Within.{within_t}
 use Rattle.utility.specs.Reading.{nodes, end_of, pair_of, Names}
 use Rattle.utility.specs.declared.Ending.{Ending}
-use Rattle.utility.proofs.Adds.{sides-canon}
-use Rattle.utility.proofs.Within.{Walks, within_end, within_none, within_all, within-lead}
+use Rattle.utility.proofs.Adds.{sides_canon}
+use Rattle.utility.proofs.Within.{Walks, within_end, within_none, within_all, within_lead}
 
 -- a store that is only read needs no working lists
 abbrev pub bare : Table → Table
 bare s = nodes s.bit s.low s.high s.count
 
-pub store-bare : (s : Table) → Store s → Store (bare s)
-store-bare s st =
+pub store_bare : (s : Table) → Store s → Store (bare s)
+store_bare s st =
     record {
-      low-length = st.low-length;
-      high-length = st.high-length;
+      low_length = st.low_length;
+      high_length = st.high_length;
       short = st.short;
       room = st.room;
-      low-earlier = st.low-earlier;
-      high-earlier = st.high-earlier;
+      low_earlier = st.low_earlier;
+      high_earlier = st.high_earlier;
       apart = st.apart;
       canon = st.canon;
       chained = record { links = λ k lt le some. absurd (omega arith); reach = λ k lt le some. absurd (omega arith) };
     }
 
-pub memo-bare : (s : Table) (memo : List ℕ) → Memo s memo → Memo (bare s) memo
-memo-bare s memo m = memo-extends s (bare s) (omega arith) (λ n h. refl) m.states memo m
+pub memo_bare : (s : Table) (memo : List ℕ) → Memo s memo → Memo (bare s) memo
+memo_bare s memo m = memo_extends s (bare s) (omega arith) (λ n h. refl) m.states memo m
 
-pub memo-full : (s : Table) (memo : List ℕ) → Memo (bare s) memo → Memo s memo
-memo-full s memo m = memo-extends (bare s) s (omega arith) (λ n h. refl) m.states memo m
+pub memo_full : (s : Table) (memo : List ℕ) → Memo (bare s) memo → Memo s memo
+memo_full s memo m = memo_extends (bare s) s (omega arith) (λ n h. refl) m.states memo m
 
 -- a name other than 0 stands for a set that is not empty
 pub not_none : (s : Table) (st : Store s) (a : ℕ) → a < s.count + 2 → (a ≡ 0 → ⊥) → tree s a ≡ none → ⊥
@@ -53,28 +53,28 @@ unfolding named
 not_none s st zero lt n e = n refl
 not_none s st (suc zero) lt n e = let z : ◌≡◌ {A = ℕ} 0 1 = cc in omega arith
 not_none s st (suc (suc k)) lt n e =
-    let i = tree-inner s st (suc (suc k)) (omega arith) lt in
+    let i = tree_inner s st (suc (suc k)) (omega arith) lt in
     let z : ◌≡◌ {A = ℕ} 0 1 = cc in
     omega arith
 
 -- a name that stands for an end value
 module _ {A : Type 0} (end : Tree → ℕ → A) (join : ℕ → A → A → A) (𝓦 : Walks end join) (x : Table) (sx : Store x) (t : Tree) where
-  low_end : (d : ℕ) → d < 2 → withinT end join t (tree x d) ≡ end t 0
+  low_end : (d : ℕ) → d < 2 → within_t end join t (tree x d) ≡ end t 0
   unfolding named
   low_end zero lt = within_none end join 𝓦 t
   low_end (suc zero) lt = within_all end join 𝓦 t
   low_end (suc (suc d)) lt = absurd (omega arith)
 
-  pub end-value : (d : ℕ) (e : Ending) → d < x.count + 2 → e ≡ end_of x.bit d → e.known ≡ true → withinT end join t (tree x d) ≡ end t e.value
+  pub end_value : (d : ℕ) (e : Ending) → d < x.count + 2 → e ≡ end_of x.bit d → e.known ≡ true → within_t end join t (tree x d) ≡ end t e.value
   unfolding end_of
-  end-value d e lt is kn =
+  end_value d e lt is kn =
       ⊎_elim
       (λ (p : ltb d 2 ≡ true). rw (rw p at is) (low_end d (ltb-true d 2 p)))
       (λ (p : ltb d 2 ≡ false).
       ⊎_elim
       (λ (q : ltb (get_or x.bit (d - 2) 0) 64 ≡ true). absurd (no_both kn (ap (λ (y : Ending). y.known) (rw (p, q) at is))))
       (λ (q : ltb (get_or x.bit (d - 2) 0) 64 ≡ false).
-      rw (rw (p, q) at is, tree-inner x sx d (ltb-false d 2 p) lt) (within_end end join 𝓦 t _ _ _ (ltb-false (get_or x.bit (d - 2) 0) 64 q)))
+      rw (rw (p, q) at is, tree_inner x sx d (ltb-false d 2 p) lt) (within_end end join 𝓦 t _ _ _ (ltb-false (get_or x.bit (d - 2) 0) 64 q)))
       (test (ltb (get_or x.bit (d - 2) 0) 64)))
       (test (ltb d 2))
 
@@ -92,34 +92,34 @@ no_end ubit d e is kn =
 
 -- the names l and h stand for the sides of the name a at the bit v
 pub record Side (s : Table) (v a l h : ℕ) : Type 0 where
-  pub low-le : l ≤ a
+  pub low_le : l ≤ a
   pub high_le : h ≤ a
-  pub low-is : tree s l ≡ lowT v (tree s a)
-  pub high_is : tree s h ≡ highT v (tree s a)
+  pub low_is : tree s l ≡ low_t v (tree s a)
+  pub high_is : tree s h ≡ high_t v (tree s a)
   pub order : Canon v (tree s a)
 
-flat-low : (s : Table) (v n : ℕ) → n < 2 → tree s n ≡ lowT v (tree s n)
-unfolding named lowT
-flat-low s v zero lt = refl
-flat-low s v (suc zero) lt = refl
-flat-low s v (suc (suc n)) lt = absurd (omega arith)
+flat_low : (s : Table) (v n : ℕ) → n < 2 → tree s n ≡ low_t v (tree s n)
+unfolding named low_t
+flat_low s v zero lt = refl
+flat_low s v (suc zero) lt = refl
+flat_low s v (suc (suc n)) lt = absurd (omega arith)
 
-flat-high : (s : Table) (v n : ℕ) → n < 2 → tree s n ≡ highT v (tree s n)
-unfolding named highT
-flat-high s v zero lt = refl
-flat-high s v (suc zero) lt = refl
-flat-high s v (suc (suc n)) lt = absurd (omega arith)
+flat_high : (s : Table) (v n : ℕ) → n < 2 → tree s n ≡ high_t v (tree s n)
+unfolding named high_t
+flat_high s v zero lt = refl
+flat_high s v (suc zero) lt = refl
+flat_high s v (suc (suc n)) lt = absurd (omega arith)
 
-flat-canon : (s : Table) (v n : ℕ) → n < 2 → Canon v (tree s n)
+flat_canon : (s : Table) (v n : ℕ) → n < 2 → Canon v (tree s n)
 unfolding named Canon
-flat-canon s v zero lt = tt
-flat-canon s v (suc zero) lt = tt
-flat-canon s v (suc (suc n)) lt = absurd (omega arith)
+flat_canon s v zero lt = tt
+flat_canon s v (suc zero) lt = tt
+flat_canon s v (suc (suc n)) lt = absurd (omega arith)
 
 module _ (s : Table) (st : Store s) (a : ℕ) (la : a < s.count + 2) where
   -- a name without a node
   flat : (v : ℕ) → a < 2 → Side s v a a a
-  flat v lt = record { low-le = omega arith; high_le = omega arith; low-is = flat-low s v a lt; high_is = flat-high s v a lt; order = flat-canon s v a lt }
+  flat v lt = record { low_le = omega arith; high_le = omega arith; low_is = flat_low s v a lt; high_is = flat_high s v a lt; order = flat_canon s v a lt }
 
   module _ (ha : 2 ≤ a) where
     abbrev b : ℕ
@@ -132,95 +132,95 @@ module _ (s : Table) (st : Store s) (a : ℕ) (la : a < s.count + 2) where
     h = get_or s.high (a - 2) 0
 
     inner : tree s a ≡ node b (tree s l) (tree s h)
-    inner = tree-inner s st a ha la
+    inner = tree_inner s st a ha la
 
     falls : (l < a) × (h < a)
-    falls = (omega (arith, st.low-earlier (a - 2) (omega arith)), omega (arith, st.high-earlier (a - 2) (omega arith)))
+    falls = (omega (arith, st.low_earlier (a - 2) (omega arith)), omega (arith, st.high_earlier (a - 2) (omega arith)))
 
     -- the root has the bit v
     own : (v : ℕ) → v ≡ b → Side s v a l h
-    unfolding lowT highT Canon
+    unfolding low_t high_t Canon
     own v e =
-        let c : Canon 0 (node b (tree s l) (tree s h)) = rw inner at (tree-canon s st a la) in
+        let c : Canon 0 (node b (tree s l) (tree s h)) = rw inner at (tree_canon s st a la) in
         record {
-          low-le = omega (arith, falls);
+          low_le = omega (arith, falls);
           high_le = omega (arith, falls);
-          low-is = rw (inner, eq-eqb b v (sym e));
+          low_is = rw (inner, eq-eqb b v (sym e));
           high_is = rw (inner, eq-eqb b v (sym e));
           order = rw inner (omega arith, c.1, c.2, c.3);
         }
 
     -- the root has a greater bit
     other : (v : ℕ) → v < b → Side s v a a a
-    unfolding lowT highT Canon
+    unfolding low_t high_t Canon
     other v lt =
-        let c : Canon 0 (node b (tree s l) (tree s h)) = rw inner at (tree-canon s st a la) in
+        let c : Canon 0 (node b (tree s l) (tree s h)) = rw inner at (tree_canon s st a la) in
         record {
-          low-le = omega arith;
+          low_le = omega arith;
           high_le = omega arith;
-          low-is = rw (inner, ne_eqb b v (omega arith));
+          low_is = rw (inner, ne_eqb b v (omega arith));
           high_is = rw (inner, ne_eqb b v (omega arith));
           order = rw inner (omega arith, c.1, c.2, c.3);
         }
 
 -- a name of a set and one of the diagram, and the names on the two sides of the lesser of their bits
 pub record Pair (s x : Table) (a d : ℕ) (p : Split) : Type 0 where
-  pub of-set : Side s p.bit a p.al p.ah
+  pub of_set : Side s p.bit a p.al p.ah
   pub of_values : Side x p.bit d p.bl p.bh
-  pub low-falls : p.al + p.bl < a + d
-  pub high-falls : p.ah + p.bh < a + d
+  pub low_falls : p.al + p.bl < a + d
+  pub high_falls : p.ah + p.bh < a + d
   pub leads : p.bit ≡ lead (tree s a) (tree x d)
   pub below : p.bit < 64
 
 -- the names on the two sides of a pair
 module _ (s x : Table) (n a d : ℕ) (f : Names s x n a d) (p : Split) (q : Pair s x a d p) where
-  side-canon : (s : Table) (a l h : ℕ) → Side s p.bit a l h → Canon (suc p.bit) (tree s l) × Canon (suc p.bit) (tree s h)
-  side-canon s a l h e = let c = sides-canon p.bit (tree s a) e.order in (rw e.low-is c.0, rw e.high_is c.1)
+  side_canon : (s : Table) (a l h : ℕ) → Side s p.bit a l h → Canon (suc p.bit) (tree s l) × Canon (suc p.bit) (tree s h)
+  side_canon s a l h e = let c = sides_canon p.bit (tree s a) e.order in (rw e.low_is c.0, rw e.high_is c.1)
 
-  pub low-names : Names s x (suc p.bit) p.al p.bl
-  low-names =
+  pub low_names : Names s x (suc p.bit) p.al p.bl
+  low_names =
       record {
-        a-below = omega (arith, f.a-below, q.of-set.low-le);
-        d-below = omega (arith, f.d-below, q.of_values.low-le);
-        a-from = (side-canon s a p.al p.ah q.of-set).0;
-        d-from = (side-canon x d p.bl p.bh q.of_values).0;
+        a_below = omega (arith, f.a_below, q.of_set.low_le);
+        d_below = omega (arith, f.d_below, q.of_values.low_le);
+        a_from = (side_canon s a p.al p.ah q.of_set).0;
+        d_from = (side_canon x d p.bl p.bh q.of_values).0;
       }
 
-  pub high-names : Names s x (suc p.bit) p.ah p.bh
-  high-names =
+  pub high_names : Names s x (suc p.bit) p.ah p.bh
+  high_names =
       record {
-        a-below = omega (arith, f.a-below, q.of-set.high_le);
-        d-below = omega (arith, f.d-below, q.of_values.high_le);
-        a-from = (side-canon s a p.al p.ah q.of-set).1;
-        d-from = (side-canon x d p.bl p.bh q.of_values).1;
+        a_below = omega (arith, f.a_below, q.of_set.high_le);
+        d_below = omega (arith, f.d_below, q.of_values.high_le);
+        a_from = (side_canon s a p.al p.ah q.of_set).1;
+        d_from = (side_canon x d p.bl p.bh q.of_values).1;
       }
 
-lead-from : (n c : ℕ) (t l h : Tree) → Canon n t → Canon n (node c l h) → n ≤ lead t (node c l h)
+lead_from : (n c : ℕ) (t l h : Tree) → Canon n t → Canon n (node c l h) → n ≤ lead t (node c l h)
 unfolding Canon lead
-lead-from n c none l h ct cu = cu.0
-lead-from n c all l h ct cu = cu.0
-lead-from n c (node b m k) l h ct cu = omega (arith, ct.0, cu.0)
+lead_from n c none l h ct cu = cu.0
+lead_from n c all l h ct cu = cu.0
+lead_from n c (node b m k) l h ct cu = omega (arith, ct.0, cu.0)
 
 module _ (s x : Table) (st : Store s) (sx : Store x) (a d : ℕ) (la : a < s.count + 2) (ld : d < x.count + 2) (hd : 2 ≤ d) (small : get_or x.bit (d - 2) 0 < 64) (some : a ≡ 0 → ⊥) where
   abbrev c : ℕ
   c = get_or x.bit (d - 2) 0
 
-  abbrev a-bit : ℕ
-  a-bit = get_or s.bit (a - 2) 0
+  abbrev a_bit : ℕ
+  a_bit = get_or s.bit (a - 2) 0
 
-  d-inner : tree x d ≡ node c (tree x (get_or x.low (d - 2) 0)) (tree x (get_or x.high (d - 2) 0))
-  d-inner = tree-inner x sx d hd ld
+  d_inner : tree x d ≡ node c (tree x (get_or x.low (d - 2) 0)) (tree x (get_or x.high (d - 2) 0))
+  d_inner = tree_inner x sx d hd ld
 
-  d-falls : (get_or x.low (d - 2) 0 < d) × (get_or x.high (d - 2) 0 < d)
-  d-falls = falls x sx d ld hd
+  d_falls : (get_or x.low (d - 2) 0 < d) × (get_or x.high (d - 2) 0 < d)
+  d_falls = falls x sx d ld hd
 
-  full-lead : a < 2 → c ≡ lead (tree s a) (tree x d)
+  full_lead : a < 2 → c ≡ lead (tree s a) (tree x d)
   unfolding lead named
-  full-lead lt = let e : a ≡ 1 = omega arith in rw (e, d-inner)
+  full_lead lt = let e : a ≡ 1 = omega arith in rw (e, d_inner)
 
-  lead-min : 2 ≤ a → lead (tree s a) (tree x d) ≡ min a-bit c
+  lead_min : 2 ≤ a → lead (tree s a) (tree x d) ≡ min a_bit c
   unfolding lead
-  lead-min ha = rw (tree-inner s st a ha la, d-inner)
+  lead_min ha = rw (tree_inner s st a ha la, d_inner)
 
   pub pair : (p : Split) → p ≡ pair_of s.bit s.low s.high x.bit x.low x.high a d → Pair s x a d p
   unfolding pair_of
@@ -229,36 +229,36 @@ module _ (s x : Table) (st : Store s) (sx : Store x) (a d : ℕ) (la : a < s.cou
       (λ (e : ltb a 2 ≡ true).
       let lt = ltb-true a 2 e in
       rw (rw e at is)
-      (record { of-set = flat s st a la c lt; of_values = own x sx d ld hd c refl; low-falls = omega (arith, d-falls); high-falls = omega (arith, d-falls); leads = full-lead lt; below = small }))
+      (record { of_set = flat s st a la c lt; of_values = own x sx d ld hd c refl; low_falls = omega (arith, d_falls); high_falls = omega (arith, d_falls); leads = full_lead lt; below = small }))
       (λ (e : ltb a 2 ≡ false).
       let ha = ltb-false a 2 e in
       let fa = falls s st a la ha in
       ⊎_elim
-      (λ (f : ltb a-bit c ≡ true).
-      let lt = ltb-true a-bit c f in
+      (λ (f : ltb a_bit c ≡ true).
+      let lt = ltb-true a_bit c f in
       rw (rw (e, f) at is)
-      (record { of-set = own s st a la ha a-bit refl; of_values = other x sx d ld hd a-bit lt; low-falls = omega (arith, fa); high-falls = omega (arith, fa); leads = omega (arith, lead-min ha); below = omega arith }))
-      (λ (f : ltb a-bit c ≡ false).
-      let ge = ltb-false a-bit c f in
+      (record { of_set = own s st a la ha a_bit refl; of_values = other x sx d ld hd a_bit lt; low_falls = omega (arith, fa); high_falls = omega (arith, fa); leads = omega (arith, lead_min ha); below = omega arith }))
+      (λ (f : ltb a_bit c ≡ false).
+      let ge = ltb-false a_bit c f in
       ⊎_elim
-      (λ (g : ltb c a-bit ≡ true).
-      let gt = ltb-true c a-bit g in
+      (λ (g : ltb c a_bit ≡ true).
+      let gt = ltb-true c a_bit g in
       rw (rw (e, f, g) at is)
-      (record { of-set = other s st a la ha c gt; of_values = own x sx d ld hd c refl; low-falls = omega (arith, d-falls); high-falls = omega (arith, d-falls); leads = omega (arith, lead-min ha); below = small }))
-      (λ (g : ltb c a-bit ≡ false).
-      let le = ltb-false c a-bit g in
+      (record { of_set = other s st a la ha c gt; of_values = own x sx d ld hd c refl; low_falls = omega (arith, d_falls); high_falls = omega (arith, d_falls); leads = omega (arith, lead_min ha); below = small }))
+      (λ (g : ltb c a_bit ≡ false).
+      let le = ltb-false c a_bit g in
       rw (rw (e, f, g) at is)
-      (record { of-set = own s st a la ha a-bit refl; of_values = own x sx d ld hd a-bit (omega arith); low-falls = omega (arith, fa, d-falls); high-falls = omega (arith, fa, d-falls); leads = omega (arith, lead-min ha); below = omega arith }))
-      (test (ltb c a-bit)))
-      (test (ltb a-bit c)))
+      (record { of_set = own s st a la ha a_bit refl; of_values = own x sx d ld hd a_bit (omega arith); low_falls = omega (arith, fa, d_falls); high_falls = omega (arith, fa, d_falls); leads = omega (arith, lead_min ha); below = omega arith }))
+      (test (ltb c a_bit)))
+      (test (ltb a_bit c)))
       (test (ltb a 2))
 
   -- the walk goes on at the two sides
-  pub walk-on : {A : Type 0} (end : Tree → ℕ → A) (join : ℕ → A → A → A) (𝓦 : Walks end join) (p : Split) → Pair s x a d p → withinT end join (tree s a) (tree x d) ≡ join p.bit (withinT end join (tree s p.al) (tree x p.bl)) (withinT end join (tree s p.ah) (tree x p.bh))
-  walk-on end join 𝓦 p q =
-      rw (q.of-set.low-is, q.of-set.high_is, q.of_values.low-is, q.of_values.high_is)
-      (rw d-inner (within-lead end join 𝓦 (tree s a) c _ _ p.bit (not_none s st a la some) small (q.leads ∙ ap (lead (tree s a)) d-inner)))
+  pub walk_on : {A : Type 0} (end : Tree → ℕ → A) (join : ℕ → A → A → A) (𝓦 : Walks end join) (p : Split) → Pair s x a d p → within_t end join (tree s a) (tree x d) ≡ join p.bit (within_t end join (tree s p.al) (tree x p.bl)) (within_t end join (tree s p.ah) (tree x p.bh))
+  walk_on end join 𝓦 p q =
+      rw (q.of_set.low_is, q.of_set.high_is, q.of_values.low_is, q.of_values.high_is)
+      (rw d_inner (within_lead end join 𝓦 (tree s a) c _ _ p.bit (not_none s st a la some) small (q.leads ∙ ap (lead (tree s a)) d_inner)))
 
   -- the lesser bit of a pair whose bits are n or more
-  pub pair-from : (n : ℕ) → Names s x n a d → (p : Split) → Pair s x a d p → n ≤ p.bit
-  pair-from n f p q = let cd = rw d-inner at f.d-from in omega (arith, q.leads ∙ ap (lead (tree s a)) d-inner, lead-from n c (tree s a) _ _ f.a-from cd)
+  pub pair_from : (n : ℕ) → Names s x n a d → (p : Split) → Pair s x a d p → n ≤ p.bit
+  pair_from n f p q = let cd = rw d_inner at f.d_from in omega (arith, q.leads ∙ ap (lead (tree s a)) d_inner, lead_from n c (tree s a) _ _ f.a_from cd)

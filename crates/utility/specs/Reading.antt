@@ -30,7 +30,7 @@ pair_of bit low high ubit ulow uhigh a u =
 
 -- a name of a set and one of the diagram, whose bits are n or more
 pub record Names (s x : Table) (n a d : ℕ) : Type 0 where
-  pub a-below : a < s.count + 2
-  pub d-below : d < x.count + 2
-  pub a-from : Canon n (tree s a)
-  pub d-from : Canon n (tree x d)
+  pub a_below : a < s.count + 2
+  pub d_below : d < x.count + 2
+  pub a_from : Canon n (tree s a)
+  pub d_from : Canon n (tree x d)

@@ -7,7 +7,7 @@ use Rattle.cube_bits.specs.Following.{Following}
 use Rattle.diagram_loops.specs.Loops.{Operation, Looked}
 use Rattle.diagram_loops.specs.declared.Look.{Look}
 use Rattle.utility_add.specs.Adds.{Added}
-use Rattle.utility_add.specs.Sums.{addFrom}
+use Rattle.utility_add.specs.Sums.{add_from}
 
 -- a name whose bits are n or more, and the bit that the cube cares for next
 pub record Addable (care w : ℕ) (s : Table) (n x k : ℕ) : Type 0 where
@@ -21,7 +21,7 @@ pub record Addable (care w : ℕ) (s : Table) (n x k : ℕ) : Type 0 where
 abbrev pub adding : ℕ → ℕ → ℕ → Operation
 adding care value w =
     record {
-      result = λ s x k. addFrom care value w k (tree s x);
+      result = λ s x k. add_from care value w k (tree s x);
       Fit = Addable care w;
       Own = λ s f. Unit {0};
       rank = λ x k. x + (65 - k);

@@ -4,7 +4,7 @@ use Rattle.diagrams.specs.Tree.{Tree, Canon, Under}
 use Rattle.diagrams.specs.Store.{Table, blank, tree, Makes}
 use Rattle.diagrams.specs.Memo.{Stamped}
 use Rattle.diagrams.specs.declared.Made.{Made}
-use Rattle.utility_add.specs.Sums.{addFrom}
+use Rattle.utility_add.specs.Sums.{add_from}
 
 -- the bits of the name's tree are k or more, the cube has bits of states only, and no sum is too large for the node lists
 pub record Asks (s : Table) (k care w a : ℕ) : Type 0 where
@@ -16,9 +16,9 @@ pub record Asks (s : Table) (k care w a : ℕ) : Type 0 where
 
 -- r names the tree of a with w added at the states of the cube, which cares for the bit k next
 pub record Added (s : Table) (care value w a k r : ℕ) : Type 0 where
-  pub a-below : a < s.count + 2
-  pub r-below : r < s.count + 2
-  pub means : tree s r ≡ addFrom care value w k (tree s a)
+  pub a_below : a < s.count + 2
+  pub r_below : r < s.count + 2
+  pub means : tree s r ≡ add_from care value w k (tree s a)
 
 -- the tree t is made, and the memo holds results of this operation; it remembers none that lasts, since the table is none of state sets
 pub record Adds (s s' : Table) (memo' : List ℕ) (stamp care value w : ℕ) (r : Made) (t : Tree) : Type 0 where

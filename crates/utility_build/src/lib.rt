@@ -5,7 +5,7 @@ ghost use Rattle.diagrams.specs.Sets.{MakesAll};
 ghost use Rattle.task.specs.Format.{terms};
 ghost use Rattle.task.specs.Check.{accepted};
 ghost use Rattle.task.specs.Decode.{task_of};
-ghost use Rattle.utility_build.specs.Built.{stage, stagesAfter, Ready, AddsTerm, Builds};
+ghost use Rattle.utility_build.specs.Built.{stage, stages_after, Ready, AddsTerm, Builds};
 
 use diagrams::{Made, done};
 
@@ -53,7 +53,7 @@ fn add_terms(
     ensures { let s = table bit.old low.old high.old heads.old chain.old count in
         let s' = table bit.new low.new high.new heads.new chain.new result.count in
         let f = file.now in
-        MakesAll s s' result (stagesAfter f (terms f - t) t) (stage f (terms f)) }
+        MakesAll s s' result (stages_after f (terms f - t) t) (stage f (terms f)) }
 {
     let n = task::header::terms(file);
     let mut name = a;

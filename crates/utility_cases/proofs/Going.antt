@@ -9,7 +9,7 @@ use Rattle.diagrams.specs.Store.{Table, Store}
 use Rattle.diagrams.specs.Memo.{MakesWith}
 use Rattle.diagrams.specs.declared.Made.{Made}
 use Rattle.diagrams.proofs.Trees.{no_both}
-use Rattle.diagrams.proofs.Steps.{done-count}
+use Rattle.diagrams.proofs.Steps.{done_count}
 use Rattle.utility_cases.specs.Ready.{Goes}
 
 -- full lists promise nothing
@@ -21,4 +21,4 @@ module _ (s s' : Table) (memo' : List ℕ) (r : Made) (t : Tree) (m : MakesWith 
   goes = record { ready = λ f. record { store = (m.makes.done f).store; within = (m.makes.done f).within; right = m.keeps f } }
 
   pub stays : Store s → r.full ≡ false → (a : ℕ) → a < s.count + 2 → a < s'.count + 2
-  stays st f a h = omega (arith, done-count s s' st r.name t (m.makes.done f))
+  stays st f a h = omega (arith, done_count s s' st r.name t (m.makes.done f))

@@ -6,9 +6,9 @@ use native.Mathlib.Omega.{arith}
 use lib.ListN.{length, take}
 use lib.Seq.{length-take-le}
 
-pub part-long : (n m : ℕ) (xs : List ℕ) → n ≤ m → m ≡ length xs → n ≡ length (take n xs)
-part-long n m xs h e = sym (length-take-le n xs (omega arith))
+pub part_long : (n m : ℕ) (xs : List ℕ) → n ≤ m → m ≡ length xs → n ≡ length (take n xs)
+part_long n m xs h e = sym (length-take-le n xs (omega arith))
 
 -- a part is no longer than the list
-pub part-short : (n m : ℕ) (xs : List ℕ) → n ≤ m → m ≡ length xs → m ≤ 1048576 → length (take n xs) ≤ 1048576
-part-short n m xs h e le = omega (arith, part-long n m xs h e)
+pub part_short : (n m : ℕ) (xs : List ℕ) → n ≤ m → m ≡ length xs → m ≤ 1048576 → length (take n xs) ≤ 1048576
+part_short n m xs h e le = omega (arith, part_long n m xs h e)

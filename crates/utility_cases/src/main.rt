@@ -3,7 +3,7 @@
 // lists of one less; a sum over its values at every list of bits; within random sets, the greatest utility and 1, and a sum over the
 // states that have it; a sum over the states with permitted values, and the ceiling.
 ghost use Rattle.std.specs.Prelude.{◌≡◌, true, ◌+◌, ◌≤◌, ◌<◌, length};
-ghost use Rattle.diagrams.specs.Tree.{meetT};
+ghost use Rattle.diagrams.specs.Tree.{meet_t};
 ghost use Rattle.diagrams.specs.Store.{table, tree, Store};
 ghost use Rattle.diagrams.specs.Memo.{MakesWith};
 ghost use Rattle.task.specs.Check.{accepted};
@@ -128,7 +128,7 @@ fn cube(
     requires { Ready (table bit.old low.old high.old heads.old chain.old count) memo.old 1 }
     ensures { let s = table bit.old low.old high.old heads.old chain.old count in
         let s' = table bit.new low.new high.new heads.new chain.new result.count in
-        MakesWith s s' memo.new result (meetT 64 0 care value (tree s 1)) }
+        MakesWith s s' memo.new result (meet_t 64 0 care value (tree s 1)) }
 {
     diagram_cubes::demand(bit, low, high, heads, chain, memo, count, 0, care, value, 1)
 }

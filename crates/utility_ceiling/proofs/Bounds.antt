@@ -11,28 +11,28 @@ use lib.Seq.{length-take-le}
 use borrow.Author.Tests.{lt-ltb, le-ltb, ltb-true, ltb-false}
 use Rattle.planning.specs.Connectives.{◌and◌, pick}
 use Rattle.planning.specs.Coding.{number}
-use Rattle.diagrams.specs.Tree.{none, mkT, endT, diagram}
-use Rattle.diagrams.proofs.Trees.{test, mkT-same}
-use Rattle.diagrams.proofs.Diagrams.{diagram-same}
+use Rattle.diagrams.specs.Tree.{none, mk_t, end_t, diagram}
+use Rattle.diagrams.proofs.Trees.{test, mk_t_same}
+use Rattle.diagrams.proofs.Diagrams.{diagram_same}
 use Rattle.utility_ceiling.specs.Permitted.{below}
-use Rattle.utility_ceiling.proofs.Numbers.{number-one, number_small}
+use Rattle.utility_ceiling.proofs.Numbers.{number_one, number_small}
 
 -- a set that has no list
-diagram-none : (n k : ℕ) (f : List Bool → Bool) → ((σ : List Bool) → length σ ≡ n → f σ ≡ false) → diagram endT n k f ≡ none
-unfolding diagram endT
-diagram-none zero k f e = rw (e [] refl)
-diagram-none (suc n) k f e =
-    rw (diagram-none n (suc k) (λ σ. f (false ∷ σ)) (λ σ h. e (false ∷ σ) (ap suc h)), diagram-none n (suc k) (λ σ. f (true ∷ σ)) (λ σ h. e (true ∷ σ) (ap suc h)))
-    (mkT-same k none none refl)
+diagram_none : (n k : ℕ) (f : List Bool → Bool) → ((σ : List Bool) → length σ ≡ n → f σ ≡ false) → diagram end_t n k f ≡ none
+unfolding diagram end_t
+diagram_none zero k f e = rw (e [] refl)
+diagram_none (suc n) k f e =
+    rw (diagram_none n (suc k) (λ σ. f (false ∷ σ)) (λ σ h. e (false ∷ σ) (ap suc h)), diagram_none n (suc k) (λ σ. f (true ∷ σ)) (λ σ h. e (true ∷ σ) (ap suc h)))
+    (mk_t_same k none none refl)
 
 -- bits that are not asked
-diagram-skip : (i n k : ℕ) (g : List Bool → Bool) → diagram endT (i + n) k (λ σ. g (drop i σ)) ≡ diagram endT n (i + k) g
+diagram_skip : (i n k : ℕ) (g : List Bool → Bool) → diagram end_t (i + n) k (λ σ. g (drop i σ)) ≡ diagram end_t n (i + k) g
 unfolding diagram
-diagram-skip zero n k g = let e : 0 + n ≡ n = omega arith in let f : 0 + k ≡ k = omega arith in rw (e, f)
-diagram-skip (suc i) n k g =
+diagram_skip zero n k g = let e : 0 + n ≡ n = omega arith in let f : 0 + k ≡ k = omega arith in rw (e, f)
+diagram_skip (suc i) n k g =
     let e : suc i + n ≡ suc (i + n) = omega arith in
     let f : suc i + k ≡ i + suc k = omega arith in
-    rw (e, f) (mkT-same k _ _ refl ∙ diagram-skip i n (suc k) g)
+    rw (e, f) (mk_t_same k _ _ refl ∙ diagram_skip i n (suc k) g)
 
 less_both : (p a m : ℕ) → ltb (p + a) (p + m) ≡ ltb a m
 less_both p a m =
@@ -47,29 +47,29 @@ module _ (i n b : ℕ) (g : List Bool → Bool) where
   front σ l = length-take-le i σ (omega arith)
 
   -- the bound's bit is 1: where the list's is 0, the bits behind are free
-  pub bound-one : (m : ℕ) → mkT b (diagram endT n (i + suc b) g) (diagram endT (i + n) (suc b) (below i m g)) ≡ diagram endT (suc i + n) b (below (suc i) (2 ^ i + m) g)
+  pub bound_one : (m : ℕ) → mk_t b (diagram end_t n (i + suc b) g) (diagram end_t (i + n) (suc b) (below i m g)) ≡ diagram end_t (suc i + n) b (below (suc i) (2 ^ i + m) g)
   unfolding diagram below number pick ◌and◌
-  bound-one m =
+  bound_one m =
       let e : suc i + n ≡ suc (i + n) = omega arith in
-      rw e (ap₂ (mkT b) (sym (diagram-skip i n (suc b) g) ∙ diagram-same endT (i + n) (suc b) _ _ low) (diagram-same endT (i + n) (suc b) _ _ high))
+      rw e (ap₂ (mk_t b) (sym (diagram_skip i n (suc b) g) ∙ diagram_same end_t (i + n) (suc b) _ _ low) (diagram_same end_t (i + n) (suc b) _ _ high))
     where
       low : (σ : List Bool) → length σ ≡ i + n → g (drop i σ) ≡ (ltb (number 0 (take i σ)) (2 ^ i + m) and g (drop i σ))
       low σ l = rw (lt-ltb (number 0 (take i σ)) (2 ^ i + m) (omega (arith, rw (front σ l) at (number_small (take i σ)))))
 
       high : (σ : List Bool) → length σ ≡ i + n → (ltb (number 0 (take i σ)) m and g (drop i σ)) ≡ (ltb (number 1 (take i σ)) (2 ^ i + m) and g (drop i σ))
-      high σ l = rw (number-one (take i σ), front σ l, less_both (2 ^ i) (number 0 (take i σ)) m)
+      high σ l = rw (number_one (take i σ), front σ l, less_both (2 ^ i) (number 0 (take i σ)) m)
 
   -- the bound's bit is 0: so is the list's
-  pub bound-zero : (m : ℕ) → m ≤ 2 ^ i → mkT b (diagram endT (i + n) (suc b) (below i m g)) none ≡ diagram endT (suc i + n) b (below (suc i) m g)
+  pub bound_zero : (m : ℕ) → m ≤ 2 ^ i → mk_t b (diagram end_t (i + n) (suc b) (below i m g)) none ≡ diagram end_t (suc i + n) b (below (suc i) m g)
   unfolding diagram below number pick ◌and◌
-  bound-zero m le =
+  bound_zero m le =
       let e : suc i + n ≡ suc (i + n) = omega arith in
-      rw e (ap (mkT b (diagram endT (i + n) (suc b) (below i m g))) (sym (diagram-none (i + n) (suc b) _ high)))
+      rw e (ap (mk_t b (diagram end_t (i + n) (suc b) (below i m g))) (sym (diagram_none (i + n) (suc b) _ high)))
     where
       high : (σ : List Bool) → length σ ≡ i + n → (ltb (number 1 (take i σ)) m and g (drop i σ)) ≡ false
-      high σ l = rw (le-ltb (number 1 (take i σ)) m (omega (arith, number-one (take i σ), ap (λ z. 2 ^ z) (front σ l))))
+      high σ l = rw (le-ltb (number 1 (take i σ)) m (omega (arith, number_one (take i σ), ap (λ z. 2 ^ z) (front σ l))))
 
 -- no bit at all: the bound is 1
-pub bound-none : (n k : ℕ) (g : List Bool → Bool) → diagram endT n k g ≡ diagram endT (0 + n) k (below 0 1 g)
+pub bound_none : (n k : ℕ) (g : List Bool → Bool) → diagram end_t n k g ≡ diagram end_t (0 + n) k (below 0 1 g)
 unfolding below number ◌and◌
-bound-none n k g = let e : 0 + n ≡ n = omega arith in rw e (diagram-same endT n k _ _ (λ σ l. refl))
+bound_none n k g = let e : 0 + n ≡ n = omega arith in rw e (diagram_same end_t n k _ _ (λ σ l. refl))

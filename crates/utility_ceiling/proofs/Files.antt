@@ -8,47 +8,47 @@ use lib.ListN.{length, get_or, drop}
 use Rattle.planning.specs.Coding.{width, bits, offset}
 use Rattle.planning.specs.Ceiling.{ceiling}
 use Rattle.diagrams.specs.Store.{Table, table, tree}
-use Rattle.diagrams.proofs.Empty.{store-empty}
+use Rattle.diagrams.proofs.Empty.{store_empty}
 use Rattle.task.specs.Format.{variables, size}
 use Rattle.task.specs.Check.{accepted}
 use Rattle.task.specs.Decode.{sizes, task_of}
 use Rattle.task.proofs.Acceptance.{sound}
-use Rattle.task.proofs.Goodness.{length-sizes, size-at, good}
-use Rattle.utility.specs.Within.{mostT}
+use Rattle.task.proofs.Goodness.{length_sizes, size_at, good}
+use Rattle.utility.specs.Within.{most_t}
 use Rattle.utility.specs.Valued.{Valued}
 use Rattle.utility_ceiling.specs.Permitted.{permitted}
 use Rattle.utility_ceiling.specs.Sets.{From}
-use Rattle.utility_ceiling.proofs.Permitted.{permitted-within}
-use Rattle.utility_ceiling.proofs.Making.{Bounding, from-none, from-begins, from-ends}
+use Rattle.utility_ceiling.proofs.Permitted.{permitted_within}
+use Rattle.utility_ceiling.proofs.Making.{Bounding, from_none, from_begins, from_ends}
 
 module _ (f : List ℕ) (ok : accepted f ≡ true) where
   -- before the last variable
   pub none_from : (bit low high heads chain : List ℕ) (v : ℕ) → length bit ≡ 48 → length low ≡ 48 → length high ≡ 48 → v ≡ variables f → From (sizes f) (table bit low high heads chain 0) 1 v
   none_from bit low high heads chain v b l h e =
-      rw (e ∙ sym (length-sizes f))
-      (from-none (sizes f) (table bit low high heads chain 0) (store-empty bit low high heads chain (l ∙ sym b) (h ∙ sym b) (omega arith)) b refl (sound f ok).few_bits)
+      rw (e ∙ sym (length_sizes f))
+      (from_none (sizes f) (table bit low high heads chain 0) (store_empty bit low high heads chain (l ∙ sym b) (h ∙ sym b) (omega arith)) b refl (sound f ok).few_bits)
 
-  pub few-variables : variables f ≤ 32
-  few-variables = (sound f ok).few-variables
+  pub few_variables : variables f ≤ 32
+  few_variables = (sound f ok).few_variables
 
-  module _ (v d at : ℕ) (lt : v < variables f) (d-is : d ≡ size f v) (at-is : at ≡ offset (sizes f) v) where
+  module _ (v d at : ℕ) (lt : v < variables f) (d_is : d ≡ size f v) (at-is : at ≡ offset (sizes f) v) where
     there : v < length (sizes f)
-    there = rw (length-sizes f) lt
+    there = rw (length_sizes f) lt
 
-    d-at : d ≡ get_or (sizes f) v 0
-    d-at = d-is ∙ sym (size-at f v lt)
+    d_at : d ≡ get_or (sizes f) v 0
+    d_at = d_is ∙ sym (size_at f v lt)
 
-    pub two-values : 2 ≤ d
-    two-values = omega (arith, ((sound f ok).variable v lt).least)
+    pub two_values : 2 ≤ d
+    two_values = omega (arith, ((sound f ok).variable v lt).least)
 
-    pub variable-begins : (s : Table) (next left : ℕ) → left ≡ width d → From (sizes f) s next (suc v) → Bounding s (bits (drop (suc v) (sizes f))) (permitted (drop (suc v) (sizes f))) next at (width d) (d - 1) (d - 1) left next
-    variable-begins s next left e b = rw e (from-begins (sizes f) s v at (width d) there at-is (ap width d-at) next (d - 1) b)
+    pub variable_begins : (s : Table) (next left : ℕ) → left ≡ width d → From (sizes f) s next (suc v) → Bounding s (bits (drop (suc v) (sizes f))) (permitted (drop (suc v) (sizes f))) next at (width d) (d - 1) (d - 1) left next
+    variable_begins s next left e b = rw e (from_begins (sizes f) s v at (width d) there at-is (ap width d_at) next (d - 1) b)
 
-    pub variable-ends : (s : Table) (next rest left tight : ℕ) → Bounding s (bits (drop (suc v) (sizes f))) (permitted (drop (suc v) (sizes f))) next at (width d) (d - 1) rest left tight → left ≤ 0 → From (sizes f) s tight v
-    variable-ends s next rest left tight b z =
-        from-ends (sizes f) s v at (width d) there at-is (ap width d-at) next (d - 1) rest left tight b z (omega (arith, two-values) ∙ d-at)
+    pub variable_ends : (s : Table) (next rest left tight : ℕ) → Bounding s (bits (drop (suc v) (sizes f))) (permitted (drop (suc v) (sizes f))) next at (width d) (d - 1) rest left tight → left ≤ 0 → From (sizes f) s tight v
+    variable_ends s next rest left tight b z =
+        from_ends (sizes f) s v at (width d) there at-is (ap width d_at) next (d - 1) rest left tight b z (omega (arith, two_values) ∙ d_at)
 
   -- the greatest utility within the permitted states, and 1
-  pub ceiling-found : (s x : Table) (name root m : ℕ) → From (sizes f) s name 0 → Valued (task_of f) x root → m ≡ mostT (tree s name) (tree x root) → m ≡ suc (ceiling (task_of f))
+  pub ceiling_found : (s x : Table) (name root m : ℕ) → From (sizes f) s name 0 → Valued (task_of f) x root → m ≡ most_t (tree s name) (tree x root) → m ≡ suc (ceiling (task_of f))
   unfolding task_of offset
-  ceiling-found s x name root m b u e = e ∙ rw (b.stands.means, u.means) (permitted-within (task_of f) (good f ok) (sound f ok).few_bits)
+  ceiling_found s x name root m b u e = e ∙ rw (b.stands.means, u.means) (permitted_within (task_of f) (good f ok) (sound f ok).few_bits)

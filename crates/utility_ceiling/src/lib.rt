@@ -4,14 +4,14 @@ ghost use Rattle.std.specs.Prelude.{◌≡◌, true, ℕ, suc, ◌+◌, ◌≤�
 ghost use Rattle.planning.specs.Ceiling.{ceiling};
 ghost use Rattle.diagrams.specs.Tree.{Under};
 ghost use Rattle.diagrams.specs.Store.{table, tree, Store};
-ghost use Rattle.task.specs.Limits.{mostBits};
+ghost use Rattle.task.specs.Limits.{most_bits};
 ghost use Rattle.task.specs.Format.{variables};
 ghost use Rattle.task.specs.Check.{accepted};
 ghost use Rattle.task.specs.Decode.{sizes, task_of};
-ghost use Rattle.utility.specs.Within.{mostT};
+ghost use Rattle.utility.specs.Within.{most_t};
 ghost use Rattle.utility.specs.Reading.{nodes};
 ghost use Rattle.utility.specs.Valued.{Valued};
-ghost use Rattle.utility_ceiling.specs.Sets.{Behind, boundT, Adds, From};
+ghost use Rattle.utility_ceiling.specs.Sets.{Behind, bound_t, Adds, From};
 
 use diagram_table::mk;
 use diagrams::{Made, SHORTEST_MEMO, done};
@@ -37,7 +37,7 @@ fn bound_bit(
     requires { Behind (table bit.old low.old high.old heads.old chain.old count) b next tight }
     ensures { let s = table bit.old low.old high.old heads.old chain.old count in
         let s' = table bit.new low.new high.new heads.new chain.new result.count in
-        Adds s s' result.name b (boundT one b (tree s next) (tree s tight)) }
+        Adds s s' result.name b (bound_t one b (tree s next) (tree s tight)) }
 {
     if one {
         return mk(bit, low, high, heads, chain, count, b, next, tight);
@@ -100,7 +100,7 @@ pub fn permitted_states(
     chain: &mut [u32],
 ) -> Made
     requires file_value { accepted file.now ≡ true }
-    requires bit_len { (length bit.old ≡ mostBits) × (length low.old ≡ mostBits) × (length high.old ≡ mostBits) }
+    requires bit_len { (length bit.old ≡ most_bits) × (length low.old ≡ most_bits) × (length high.old ≡ most_bits) }
     ensures { let s' = table bit.new low.new high.new heads.new chain.new result.count in
         From (sizes file.now) s' result.name 0 }
 {
@@ -135,7 +135,7 @@ fn greatest_within(
     requires by_index { (n : ℕ) → Under 64 (tree (nodes bit.now low.now high.now count) n) }
     ensures { let s = nodes bit.now low.now high.now count in
         let x = nodes ubit.now ulow.now uhigh.now ucount in
-        result ≡ mostT (tree s a) (tree x root) }
+        result ≡ most_t (tree s a) (tree x root) }
 {
     diagram_memo::begin(memo);
     diagram_memo::widen(memo, ucount);

@@ -4,26 +4,26 @@ use Rattle.diagrams.specs.Store.{Table, tree, Store}
 use Rattle.diagrams.specs.Memo.{Stamped}
 use Rattle.diagram_loops.specs.declared.Waiting.{Waiting}
 use Rattle.diagram_loops.specs.declared.Look.{Look}
-use Rattle.utility.specs.Within.{mostT}
+use Rattle.utility.specs.Within.{most_t}
 use Rattle.utility.specs.Reading.{nodes, Names}
 use Rattle.utility_greatest.specs.Greatest.{MostOf}
 
 -- the frame w stands for the pair (a, d), whose number is the larger of those of its sides
 pub record Parted (s x : Table) (n a d : ℕ) (w : Waiting) : Type 0 where
-  pub a-is : w.a ≡ a
-  pub d-is : w.b ≡ d
+  pub a_is : w.a ≡ a
+  pub d_is : w.b ≡ d
   pub awaits : w.lo ≡ 4294967295
-  pub joins : max (mostT (tree s w.part.al) (tree x w.part.bl)) (mostT (tree s w.part.ah) (tree x w.part.bh)) ≡ mostT (tree s a) (tree x d)
+  pub joins : max (most_t (tree s w.part.al) (tree x w.part.bl)) (most_t (tree s w.part.ah) (tree x w.part.bh)) ≡ most_t (tree s a) (tree x d)
   pub from : n ≤ w.part.bit
   pub upto : w.part.bit < 64
-  pub low-names : Names s x (suc w.part.bit) w.part.al w.part.bl
-  pub high-names : Names s x (suc w.part.bit) w.part.ah w.part.bh
-  pub low-less : w.part.al + w.part.bl < a + d
-  pub high-less : w.part.ah + w.part.bh < a + d
+  pub low_names : Names s x (suc w.part.bit) w.part.al w.part.bl
+  pub high_names : Names s x (suc w.part.bit) w.part.ah w.part.bh
+  pub low_less : w.part.al + w.part.bl < a + d
+  pub high_less : w.part.ah + w.part.bh < a + d
 
 -- a look at the pair (a, d) shows its number or how it is parted
 pub record Looked (s x : Table) (n a d : ℕ) (r : Look) : Type 0 where
-  pub shows : r.known ≡ true → r.name ≡ mostT (tree s a) (tree x d)
+  pub shows : r.known ≡ true → r.name ≡ most_t (tree s a) (tree x d)
   pub parts : r.known ≡ false → Parted s x n a d r.wait
 
 -- the same, in whatever tables with these lists they are names and the memo is right

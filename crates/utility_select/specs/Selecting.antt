@@ -4,14 +4,14 @@ use Rattle.diagrams.specs.Store.{Table, table, tree, Store}
 use Rattle.diagrams.specs.Memo.{Stamped}
 use Rattle.diagram_loops.specs.Loops.{Operation, Looked}
 use Rattle.diagram_loops.specs.declared.Look.{Look}
-use Rattle.utility.specs.Within.{selectT}
+use Rattle.utility.specs.Within.{select_t}
 use Rattle.utility.specs.Reading.{nodes, Names}
 use Rattle.utility_select.specs.Select.{Selected}
 
 abbrev pub selecting : Table → ℕ → Operation
 selecting x v =
     record {
-      result = λ s a d. selectT v (tree s a) (tree x d);
+      result = λ s a d. select_t v (tree s a) (tree x d);
       Fit = λ s n a d. Names s x n a d;
       Own = λ s w. Unit {0};
       rank = λ a d. a + d;

@@ -3,45 +3,45 @@ use Prim.Native.Nat.{ℕ}
 use mathlib.Core.Path.{◌≡◌, refl}
 use mathlib.Core.List.{List, [], ◌∷◌, ◌++◌}
 use Rattle.planning.specs.Connectives.{◌and◌, ◌or◌, pick}
-use Rattle.planning.specs.Scan.{firstBad, every, tab}
-use Rattle.planning.specs.Model.{value_of, holds, apply, stateUtility, operatorAt}
+use Rattle.planning.specs.Scan.{first_bad, every, tab}
+use Rattle.planning.specs.Model.{value_of, holds, apply, state_utility, operator_at}
 use Rattle.planning.specs.Coding.{wide, width, bits}
 use Rattle.task.specs.Bytes.{byte, le16, le32, part}
-use Rattle.task.specs.Format.{variableRecord, operatorRecord, termRecord, effects}
+use Rattle.task.specs.Format.{variable_record, operator_record, term_record, effects}
 use Rattle.task.specs.Decode.{facts, sizes, task_of}
-use Rattle.task.specs.Check.{letterRight, lettersRight, lengthRight, countsRight, sectionInside, apart, allInside, allApart, headerFault, namesVariable, has_value, rises, usedRight, unusedRight, factRight, factsRight, variableRight, costRight, factCountsRight, preconditionsRight, effectsRight, operatorRecordRight, operatorRight, termCountsRight, termFactsRight, termRecordRight, termRight, checkOf, accepted}
+use Rattle.task.specs.Check.{letter_right, letters_right, length_right, counts_right, section_inside, apart, all_inside, all_apart, header_fault, names_variable, has_value, rises, used_right, unused_right, fact_right, facts_right, variable_right, cost_right, fact_counts_right, preconditions_right, effects_right, operator_record_right, operator_right, term_counts_right, term_facts_right, term_record_right, term_right, check_of, accepted}
 use Rattle.walk.specs.declared.Fault.TheVariants.{Operator, Precondition, Bound}
 use Rattle.walk.specs.declared.Walked.{Walked}
 use Rattle.walk.specs.declared.Walked.TheVariants.{Odd, Reached}
-use Rattle.walk.specs.Walk.{stopsAt, walkFrom, walk_of}
-use Rattle.task.specs.Cases.{header, operator, fileP, fileQ, fileOf}
+use Rattle.walk.specs.Walk.{stops_at, walk_from, walk_of}
+use Rattle.task.specs.Cases.{header, operator, file_p, file_q, file_of}
 
 -- the file check: P and Q; 16 and 17 values; an operator of cost 0; 48 and 49 bits; no bytes
 pub checks :
     ◌≡◌ {A = List (ℕ × ℕ)}
-    (checkOf (fileP 1)
-    ∷ checkOf (fileQ 5)
-    ∷ checkOf (fileOf 1 (16 ∷ 15 ∷ []))
-    ∷ checkOf (fileOf 1 (17 ∷ 0 ∷ []))
-    ∷ checkOf (header 1 1 0 0 ++ (2 ∷ 0 ∷ []) ++ operator 0 0 0 [] [])
-    ∷ checkOf (fileOf 12 (16 ∷ 0 ∷ 16 ∷ 0 ∷ 16 ∷ 0 ∷ 16 ∷ 0 ∷ 16 ∷ 0 ∷ 16 ∷ 0 ∷ 16 ∷ 0 ∷ 16 ∷ 0 ∷ 16 ∷ 0 ∷ 16 ∷ 0 ∷ 16 ∷ 0 ∷ 16 ∷ 0 ∷ []))
-    ∷ checkOf (fileOf 13 (16 ∷ 0 ∷ 16 ∷ 0 ∷ 16 ∷ 0 ∷ 16 ∷ 0 ∷ 16 ∷ 0 ∷ 16 ∷ 0 ∷ 16 ∷ 0 ∷ 16 ∷ 0 ∷ 16 ∷ 0 ∷ 16 ∷ 0 ∷ 16 ∷ 0 ∷ 16 ∷ 0 ∷ 2 ∷ 0 ∷ []))
-    ∷ checkOf []
+    (check_of (file_p 1)
+    ∷ check_of (file_q 5)
+    ∷ check_of (file_of 1 (16 ∷ 15 ∷ []))
+    ∷ check_of (file_of 1 (17 ∷ 0 ∷ []))
+    ∷ check_of (header 1 1 0 0 ++ (2 ∷ 0 ∷ []) ++ operator 0 0 0 [] [])
+    ∷ check_of (file_of 12 (16 ∷ 0 ∷ 16 ∷ 0 ∷ 16 ∷ 0 ∷ 16 ∷ 0 ∷ 16 ∷ 0 ∷ 16 ∷ 0 ∷ 16 ∷ 0 ∷ 16 ∷ 0 ∷ 16 ∷ 0 ∷ 16 ∷ 0 ∷ 16 ∷ 0 ∷ 16 ∷ 0 ∷ []))
+    ∷ check_of (file_of 13 (16 ∷ 0 ∷ 16 ∷ 0 ∷ 16 ∷ 0 ∷ 16 ∷ 0 ∷ 16 ∷ 0 ∷ 16 ∷ 0 ∷ 16 ∷ 0 ∷ 16 ∷ 0 ∷ 16 ∷ 0 ∷ 16 ∷ 0 ∷ 16 ∷ 0 ∷ 16 ∷ 0 ∷ 2 ∷ 0 ∷ []))
+    ∷ check_of []
     ∷ [])
     ((0, 0) ∷ (0, 0) ∷ (0, 0) ∷ (7, 0) ∷ (0, 0) ∷ (0, 0) ∷ (8, 0) ∷ (1, 0) ∷ [])
-unfolding ◌and◌ ◌or◌ pick firstBad every tab wide width bits byte le16 le32 part variableRecord operatorRecord termRecord effects sizes letterRight lettersRight lengthRight countsRight sectionInside apart allInside allApart headerFault namesVariable has_value rises usedRight unusedRight factRight factsRight variableRight costRight factCountsRight preconditionsRight effectsRight operatorRecordRight operatorRight termCountsRight termFactsRight termRecordRight termRight checkOf
+unfolding ◌and◌ ◌or◌ pick first_bad every tab wide width bits byte le16 le32 part variable_record operator_record term_record effects sizes letter_right letters_right length_right counts_right section_inside apart all_inside all_apart header_fault names_variable has_value rises used_right unused_right fact_right facts_right variable_right cost_right fact_counts_right preconditions_right effects_right operator_record_right operator_right term_counts_right term_facts_right term_record_right term_right check_of
 checks = refl
 
 -- the walk over P: 1, 2 with b = 2; 1, 2 with b = 1; 1, 1; 3; and Q with b = 5: 1, 2
 pub walks :
     ◌≡◌ {A = List Walked}
-    (walk_of (fileP 2) (1 ∷ 0 ∷ 2 ∷ 0 ∷ [])
-    ∷ walk_of (fileP 1) (1 ∷ 0 ∷ 2 ∷ 0 ∷ [])
-    ∷ walk_of (fileP 2) (1 ∷ 0 ∷ 1 ∷ 0 ∷ [])
-    ∷ walk_of (fileP 2) (3 ∷ 0 ∷ [])
-    ∷ walk_of (fileP 2) (3 ∷ [])
-    ∷ walk_of (fileQ 5) (1 ∷ 0 ∷ 2 ∷ 0 ∷ [])
+    (walk_of (file_p 2) (1 ∷ 0 ∷ 2 ∷ 0 ∷ [])
+    ∷ walk_of (file_p 1) (1 ∷ 0 ∷ 2 ∷ 0 ∷ [])
+    ∷ walk_of (file_p 2) (1 ∷ 0 ∷ 1 ∷ 0 ∷ [])
+    ∷ walk_of (file_p 2) (3 ∷ 0 ∷ [])
+    ∷ walk_of (file_p 2) (3 ∷ [])
+    ∷ walk_of (file_q 5) (1 ∷ 0 ∷ 2 ∷ 0 ∷ [])
     ∷ [])
-    (Reached 2 3 ∷ stopsAt 1 Bound ∷ stopsAt 1 Precondition ∷ stopsAt 0 Operator ∷ Odd ∷ Reached 4 7 ∷ [])
-unfolding ◌and◌ ◌or◌ pick firstBad every tab wide width bits byte le16 le32 part variableRecord operatorRecord termRecord effects sizes letterRight lettersRight lengthRight countsRight sectionInside apart allInside allApart headerFault namesVariable has_value rises usedRight unusedRight factRight factsRight variableRight costRight factCountsRight preconditionsRight effectsRight operatorRecordRight operatorRight termCountsRight termFactsRight termRecordRight termRight checkOf accepted facts task_of value_of holds apply stateUtility operatorAt walkFrom walk_of
+    (Reached 2 3 ∷ stops_at 1 Bound ∷ stops_at 1 Precondition ∷ stops_at 0 Operator ∷ Odd ∷ Reached 4 7 ∷ [])
+unfolding ◌and◌ ◌or◌ pick first_bad every tab wide width bits byte le16 le32 part variable_record operator_record term_record effects sizes letter_right letters_right length_right counts_right section_inside apart all_inside all_apart header_fault names_variable has_value rises used_right unused_right fact_right facts_right variable_right cost_right fact_counts_right preconditions_right effects_right operator_record_right operator_right term_counts_right term_facts_right term_record_right term_right check_of accepted facts task_of value_of holds apply state_utility operator_at walk_from walk_of
 walks = refl

@@ -12,7 +12,7 @@ use lib.ListN.{length, get_or, take}
 use lib.Dec.{ltb}
 use borrow.Author.Tests.{leb-true, le-leb}
 use Rattle.planning.specs.Connectives.{◌and◌, pick}
-use Rattle.planning.specs.Model.{Task, stateUtility, operatorAt, canApply, next, applicable, end, cost, utility}
+use Rattle.planning.specs.Model.{Task, state_utility, operator_at, can_apply, next, applicable, end, cost, utility}
 use Rattle.planning.proofs.Guards.{pick_yes, and_both}
 use Rattle.task.specs.Decode.{task_of}
 use Rattle.task.specs.Check.{accepted}
@@ -21,34 +21,34 @@ use Rattle.walk.specs.declared.Fault.TheVariants.{Operator, Precondition, Bound}
 use Rattle.walk.specs.declared.Stop.{Stop}
 use Rattle.walk.specs.declared.Walked.{Walked}
 use Rattle.walk.specs.declared.Walked.TheVariants.{Reached}
-use Rattle.walk.specs.Walk.{stopsAt, walkFrom, steps, walk_of}
-use Rattle.walk.specs.Meaning.{faultOf, Succeeds, Fails}
-use Rattle.walk.proofs.Steps.{walk-even}
+use Rattle.walk.specs.Walk.{stops_at, walk_from, steps, walk_of}
+use Rattle.walk.specs.Meaning.{fault_of, Succeeds, Fails}
+use Rattle.walk.proofs.Steps.{walk_even}
 
-both-and : (a b : Bool) → a ≡ true → b ≡ true → a and b ≡ true
+both_and : (a b : Bool) → a ≡ true → b ≡ true → a and b ≡ true
 unfolding ◌and◌
-both-and a b p q = rw (p, q)
+both_and a b p q = rw (p, q)
 
 -- ---- three tests in a row, and the first that fails
 abbrev first_of : Bool → Bool → Bool → Option Fault
 first_of a b c = pick a (pick b (pick c none (some Bound)) (some Precondition)) (some Operator)
 
-none-fails : (a b c : Bool) → first_of a b c ≡ none → (a ≡ true) × (b ≡ true) × (c ≡ true)
+none_fails : (a b c : Bool) → first_of a b c ≡ none → (a ≡ true) × (b ≡ true) × (c ≡ true)
 unfolding pick
-none-fails true true true e = (refl, refl, refl)
-none-fails true true false e = let z : ◌≡◌ {A = ℕ} 0 1 = cc in absurd (omega arith)
-none-fails true false c e = let z : ◌≡◌ {A = ℕ} 0 1 = cc in absurd (omega arith)
-none-fails false b c e = let z : ◌≡◌ {A = ℕ} 0 1 = cc in absurd (omega arith)
+none_fails true true true e = (refl, refl, refl)
+none_fails true true false e = let z : ◌≡◌ {A = ℕ} 0 1 = cc in absurd (omega arith)
+none_fails true false c e = let z : ◌≡◌ {A = ℕ} 0 1 = cc in absurd (omega arith)
+none_fails false b c e = let z : ◌≡◌ {A = ℕ} 0 1 = cc in absurd (omega arith)
 
-one-fails : (a b c : Bool) (W : Walked) (i : ℕ) (x : Fault) → first_of a b c ≡ some x → pick a (pick b (pick c W (stopsAt i Bound)) (stopsAt i Precondition)) (stopsAt i Operator) ≡ stopsAt i x
+one_fails : (a b c : Bool) (W : Walked) (i : ℕ) (x : Fault) → first_of a b c ≡ some x → pick a (pick b (pick c W (stops_at i Bound)) (stops_at i Precondition)) (stops_at i Operator) ≡ stops_at i x
 unfolding pick
-one-fails true true true W i x h = let z : ◌≡◌ {A = ℕ} 0 1 = cc in absurd (omega arith)
-one-fails true true false W i x h = let e : Bound ≡ x = cc in ap (stopsAt i) e
-one-fails true false c W i x h = let e : Precondition ≡ x = cc in ap (stopsAt i) e
-one-fails false b c W i x h = let e : Operator ≡ x = cc in ap (stopsAt i) e
+one_fails true true true W i x h = let z : ◌≡◌ {A = ℕ} 0 1 = cc in absurd (omega arith)
+one_fails true true false W i x h = let e : Bound ≡ x = cc in ap (stops_at i) e
+one_fails true false c W i x h = let e : Precondition ≡ x = cc in ap (stops_at i) e
+one_fails false b c W i x h = let e : Operator ≡ x = cc in ap (stops_at i) e
 
 -- walks that stop alike stop at one step with one fault
-same_stop : (i j : ℕ) (x y : Fault) → stopsAt i x ≡ stopsAt j y → (i ≡ j) × (x ≡ y)
+same_stop : (i j : ℕ) (x y : Fault) → stops_at i x ≡ stops_at j y → (i ≡ j) × (x ≡ y)
 same_stop i j x y e =
     let q : ◌≡◌ {A = Stop} (record { step = i; fault = x }) (record { step = j; fault = y }) = cc in
     (ap (λ (s : Stop). s.step) q, ap (λ (s : Stop). s.fault) q)
@@ -63,7 +63,7 @@ module _ (t : Task) where
     pub below : j < length p
     pub applies : applicable t s (take j p) ≡ true
     pub within : c + cost t (take j p) ≤ t.bound
-    pub faulty : faultOf t (end t s (take j p)) (c + cost t (take j p)) (get_or p j 0) ≡ some x
+    pub faulty : fault_of t (end t s (take j p)) (c + cost t (take j p)) (get_or p j 0) ≡ some x
 
   record SomeFault (s : List ℕ) (c : ℕ) (p : List ℕ) : Type 0 where
     pub step : ℕ
@@ -72,44 +72,44 @@ module _ (t : Task) where
 
   -- ---- one step
   abbrev price : ℕ → ℕ
-  price o = (operatorAt t.operators o).cost
+  price o = (operator_at t.operators o).cost
 
-  passes : (i : ℕ) (s : List ℕ) (c o : ℕ) (p : List ℕ) → canApply t o s ≡ true → c + price o ≤ t.bound → walkFrom t (suc i) (next t o s) (c + price o) p ≡ walkFrom t i s c (o ∷ p)
-  unfolding walkFrom canApply next
+  passes : (i : ℕ) (s : List ℕ) (c o : ℕ) (p : List ℕ) → can_apply t o s ≡ true → c + price o ≤ t.bound → walk_from t (suc i) (next t o s) (c + price o) p ≡ walk_from t i s c (o ∷ p)
+  unfolding walk_from can_apply next
   passes i s c o p e h =
       let b = and_both (ltb o (length t.operators)) _ e in
       pick_yes _ _ _ _ b.0 (pick_yes _ _ _ _ b.1 (pick_yes _ _ _ _ (le-leb _ _ h) refl))
 
-  stops : (i : ℕ) (s : List ℕ) (c o : ℕ) (p : List ℕ) (x : Fault) → faultOf t s c o ≡ some x → walkFrom t i s c (o ∷ p) ≡ stopsAt i x
-  unfolding walkFrom faultOf
-  stops i s c o p x h = one-fails _ _ _ _ i x h
+  stops : (i : ℕ) (s : List ℕ) (c o : ℕ) (p : List ℕ) (x : Fault) → fault_of t s c o ≡ some x → walk_from t i s c (o ∷ p) ≡ stops_at i x
+  unfolding walk_from fault_of
+  stops i s c o p x h = one_fails _ _ _ _ i x h
 
-  faultless : (s : List ℕ) (c o : ℕ) → faultOf t s c o ≡ none → (canApply t o s ≡ true) × (c + price o ≤ t.bound)
-  unfolding faultOf canApply
+  faultless : (s : List ℕ) (c o : ℕ) → fault_of t s c o ≡ none → (can_apply t o s ≡ true) × (c + price o ≤ t.bound)
+  unfolding fault_of can_apply
   faultless s c o e =
-      let b = none-fails _ _ _ e in
-      (both-and _ _ b.0 b.1, leb-true _ _ b.2)
+      let b = none_fails _ _ _ e in
+      (both_and _ _ b.0 b.1, leb-true _ _ b.2)
 
   -- ---- a whole walk
-  succeeds : (p : List ℕ) (i : ℕ) (s : List ℕ) (c : ℕ) → SucceedsFrom s c p → walkFrom t i s c p ≡ Reached (c + cost t p) (stateUtility t.terms (end t s p))
-  unfolding walkFrom applicable cost end
+  succeeds : (p : List ℕ) (i : ℕ) (s : List ℕ) (c : ℕ) → SucceedsFrom s c p → walk_from t i s c p ≡ Reached (c + cost t p) (state_utility t.terms (end t s p))
+  unfolding walk_from applicable cost end
   succeeds [] i s c h = rw add-zero
   succeeds (o ∷ p) i s c h =
-      let b = and_both (canApply t o s) _ h.applies in
+      let b = and_both (can_apply t o s) _ h.applies in
       let w : (c + price o) + cost t p ≤ t.bound = omega (arith, h.within) in
       let e : (c + price o) + cost t p ≡ c + (price o + cost t p) = omega arith in
       sym (passes i s c o p b.0 (omega (arith, h.within)))
       ∙ succeeds p (suc i) (next t o s) (c + price o) (record { applies = b.1; within = w })
-      ∙ ap (λ (x : ℕ). Reached x (stateUtility t.terms (end t (next t o s) p))) e
+      ∙ ap (λ (x : ℕ). Reached x (state_utility t.terms (end t (next t o s) p))) e
 
-  fails : (p : List ℕ) (i : ℕ) (s : List ℕ) (c j : ℕ) (x : Fault) → FailsFrom s c p j x → walkFrom t i s c p ≡ stopsAt (i + j) x
+  fails : (p : List ℕ) (i : ℕ) (s : List ℕ) (c j : ℕ) (x : Fault) → FailsFrom s c p j x → walk_from t i s c p ≡ stops_at (i + j) x
   unfolding applicable cost end
   fails [] i s c j x h = absurd (omega (arith, h.below))
   fails (o ∷ p) i s c zero x h =
-      let e : faultOf t s c o ≡ some x = ap (λ (y : ℕ). faultOf t s y o) (sym (add-zero c)) ∙ h.faulty in
+      let e : fault_of t s c o ≡ some x = ap (λ (y : ℕ). fault_of t s y o) (sym (add-zero c)) ∙ h.faulty in
       stops i s c o p x e ∙ rw add-zero
   fails (o ∷ p) i s c (suc j) x h =
-      let b = and_both (canApply t o s) _ h.applies in
+      let b = and_both (can_apply t o s) _ h.applies in
       let a : (c + price o) + cost t (take j p) ≡ c + (price o + cost t (take j p)) = omega arith in
       let k : suc i + j ≡ i + suc j = omega arith in
       sym (passes i s c o p b.0 (omega (arith, h.within)))
@@ -120,15 +120,15 @@ module _ (t : Task) where
         within = omega (arith, h.within);
         faulty = rw a h.faulty;
       })
-      ∙ ap (λ (m : ℕ). stopsAt m x) k
+      ∙ ap (λ (m : ℕ). stops_at m x) k
 
   outcome : (p : List ℕ) (s : List ℕ) (c : ℕ) → c ≤ t.bound → SucceedsFrom s c p ⊎ SomeFault s c p
   unfolding applicable cost end
   outcome [] s c h = inl (record { applies = refl; within = omega arith })
-  outcome (o ∷ p) s c h = by (faultOf t s c o) refl (outcome p (next t o s) (c + price o))
+  outcome (o ∷ p) s c h = by (fault_of t s c o) refl (outcome p (next t o s) (c + price o))
     where
-      on : canApply t o s ≡ true → c + price o ≤ t.bound → SucceedsFrom (next t o s) (c + price o) p ⊎ SomeFault (next t o s) (c + price o) p → SucceedsFrom s c (o ∷ p) ⊎ SomeFault s c (o ∷ p)
-      on e l (inl r) = inl (record { applies = both-and _ _ e r.applies; within = omega (arith, r.within) })
+      on : can_apply t o s ≡ true → c + price o ≤ t.bound → SucceedsFrom (next t o s) (c + price o) p ⊎ SomeFault (next t o s) (c + price o) p → SucceedsFrom s c (o ∷ p) ⊎ SomeFault s c (o ∷ p)
+      on e l (inl r) = inl (record { applies = both_and _ _ e r.applies; within = omega (arith, r.within) })
       on e l (inr r) =
           let j = r.step in
           let x = r.fails in
@@ -140,13 +140,13 @@ module _ (t : Task) where
             fails =
                 record {
                   below = omega (arith, x.below);
-                  applies = both-and _ _ e x.applies;
+                  applies = both_and _ _ e x.applies;
                   within = omega (arith, x.within);
                   faulty = rw (← a) x.faulty;
                 };
           })
 
-      by : (x : Option Fault) → faultOf t s c o ≡ x → (c + price o ≤ t.bound → SucceedsFrom (next t o s) (c + price o) p ⊎ SomeFault (next t o s) (c + price o) p) → SucceedsFrom s c (o ∷ p) ⊎ SomeFault s c (o ∷ p)
+      by : (x : Option Fault) → fault_of t s c o ≡ x → (c + price o ≤ t.bound → SucceedsFrom (next t o s) (c + price o) p ⊎ SomeFault (next t o s) (c + price o) p) → SucceedsFrom s c (o ∷ p) ⊎ SomeFault s c (o ∷ p)
       by none e rec = let b = faultless s c o e in on b.0 b.1 (rec b.1)
       by (some x) e rec =
           inr
@@ -158,7 +158,7 @@ module _ (t : Task) where
                   below = omega arith;
                   applies = refl;
                   within = omega arith;
-                  faulty = ap (λ (y : ℕ). faultOf t s y o) (add-zero c) ∙ e;
+                  faulty = ap (λ (y : ℕ). fault_of t s y o) (add-zero c) ∙ e;
                 };
           })
 
@@ -167,8 +167,8 @@ module _ (f plan : List ℕ) (a : accepted f ≡ true) (even : length plan % 2 �
   abbrev T : Task
   T = task_of f
 
-  whole : walkFrom T 0 T.start 0 (steps plan) ≡ walk_of f plan
-  whole = walk-even f plan _ (sym a) even refl
+  whole : walk_from T 0 T.start 0 (steps plan) ≡ walk_of f plan
+  whole = walk_even f plan _ (sym a) even refl
 
   known : SucceedsFrom T T.start 0 (steps plan) ⊎ SomeFault T T.start 0 (steps plan)
   known = outcome T (steps plan) T.start 0 (omega arith)
@@ -177,11 +177,11 @@ module _ (f plan : List ℕ) (a : accepted f ≡ true) (even : length plan % 2 �
   unfolding utility
   good r = sym whole ∙ succeeds T (steps plan) 0 T.start 0 r ∙ ap (λ (x : ℕ). Reached x (utility T (steps plan))) (zero-add (cost T (steps plan)))
 
-  bad : (j : ℕ) (x : Fault) → FailsFrom T T.start 0 (steps plan) j x → walk_of f plan ≡ stopsAt j x
-  bad j x r = sym whole ∙ fails T (steps plan) 0 T.start 0 j x r ∙ ap (λ (m : ℕ). stopsAt m x) (zero-add j)
+  bad : (j : ℕ) (x : Fault) → FailsFrom T T.start 0 (steps plan) j x → walk_of f plan ≡ stops_at j x
+  bad j x r = sym whole ∙ fails T (steps plan) 0 T.start 0 j x r ∙ ap (λ (m : ℕ). stops_at m x) (zero-add j)
 
-  pub walk-succeeds : (c u : ℕ) → (walk_of f plan ≡ Reached c u) ↔ Succeeds T (steps plan) c u
-  walk-succeeds c u = (to known, from)
+  pub walk_succeeds : (c u : ℕ) → (walk_of f plan ≡ Reached c u) ↔ Succeeds T (steps plan) c u
+  walk_succeeds c u = (to known, from)
     where
       to : SucceedsFrom T T.start 0 (steps plan) ⊎ SomeFault T T.start 0 (steps plan) → walk_of f plan ≡ Reached c u → Succeeds T (steps plan) c u
       to (inl r) e =
@@ -190,7 +190,7 @@ module _ (f plan : List ℕ) (a : accepted f ≡ true) (even : length plan % 2 �
             applies = r.applies;
             within = omega (arith, r.within);
             costs = cc;
-            utility-is = cc;
+            utility_is = cc;
           }
       to (inr r) e =
           let g = bad r.step r.fault r.fails in
@@ -198,12 +198,12 @@ module _ (f plan : List ℕ) (a : accepted f ≡ true) (even : length plan % 2 �
           absurd (omega arith)
 
       from : Succeeds T (steps plan) c u → walk_of f plan ≡ Reached c u
-      from s = good (record { applies = s.applies; within = omega (arith, s.within) }) ∙ rw (s.costs, s.utility-is)
+      from s = good (record { applies = s.applies; within = omega (arith, s.within) }) ∙ rw (s.costs, s.utility_is)
 
-  pub walk-fails : (i : ℕ) (x : Fault) → (walk_of f plan ≡ stopsAt i x) ↔ Fails T (steps plan) i x
-  walk-fails i x = (to known, from)
+  pub walk_fails : (i : ℕ) (x : Fault) → (walk_of f plan ≡ stops_at i x) ↔ Fails T (steps plan) i x
+  walk_fails i x = (to known, from)
     where
-      to : SucceedsFrom T T.start 0 (steps plan) ⊎ SomeFault T T.start 0 (steps plan) → walk_of f plan ≡ stopsAt i x → Fails T (steps plan) i x
+      to : SucceedsFrom T T.start 0 (steps plan) ⊎ SomeFault T T.start 0 (steps plan) → walk_of f plan ≡ stops_at i x → Fails T (steps plan) i x
       to (inl r) e =
           let g = good r in
           let z : ◌≡◌ {A = ℕ} 0 1 = cc in
@@ -223,7 +223,7 @@ module _ (f plan : List ℕ) (a : accepted f ≡ true) (even : length plan % 2 �
             faulty = rw (← ec) y.faulty;
           })
 
-      from : Fails T (steps plan) i x → walk_of f plan ≡ stopsAt i x
+      from : Fails T (steps plan) i x → walk_of f plan ≡ stops_at i x
       from s =
           let ec : 0 + cost T (take i (steps plan)) ≡ cost T (take i (steps plan)) = omega arith in
           bad i x

@@ -1,10 +1,10 @@
 // The walk of a given plan, two bytes for each step, low byte first.
 ghost use Rattle.std.specs.Prelude.{◌≡◌, ◌≤◌, length};
-ghost use Rattle.task.specs.Limits.{mostVariables};
+ghost use Rattle.task.specs.Limits.{most_variables};
 ghost use Rattle.task.specs.Format.{variables};
 ghost use Rattle.task.specs.Decode.{task_of};
-ghost use Rattle.walk.specs.Walk.{walkFrom, walk_of, steps};
-ghost use Rattle.walk.specs.Answers.{faultNumber};
+ghost use Rattle.walk.specs.Walk.{walk_from, walk_of, steps};
+ghost use Rattle.walk.specs.Answers.{fault_number};
 
 use task::bytes::le16;
 use task::header::{bound, operators, variables};
@@ -28,7 +28,7 @@ pub enum Fault {
 
 // Document 01's number of a fault.
 pub fn fault_number(fault: Fault) -> u64
-    ensures { result ≡ faultNumber fault }
+    ensures { result ≡ fault_number fault }
 {
     match fault {
         Fault::Operator => 17,
@@ -57,7 +57,7 @@ pub enum Walked {
 
 // Walks the plan from the state, step by step, up to the first that fails.
 fn follow(file: &[u8], plan: &[u8], state: &mut [u8]) -> Walked
-    ensures { result ≡ walkFrom (task_of file.now) 0 state.old 0 (steps plan.now) }
+    ensures { result ≡ walk_from (task_of file.now) 0 state.old 0 (steps plan.now) }
 {
     let n = plan.len() / 2;
     let count = operators(file);
@@ -105,8 +105,8 @@ fn follow(file: &[u8], plan: &[u8], state: &mut [u8]) -> Walked
 
 // Walks the plan from the starting state, in the room that is lent for a state.
 fn walk_in(file: &[u8], plan: &[u8], state: &mut [u8]) -> Walked
-    requires { (length state.old ≡ variables file.now) × (length state.old ≤ mostVariables) }
-    ensures { result ≡ walkFrom (task_of file.now) 0 (task_of file.now).start 0 (steps plan.now) }
+    requires { (length state.old ≡ variables file.now) × (length state.old ≤ most_variables) }
+    ensures { result ≡ walk_from (task_of file.now) 0 (task_of file.now).start 0 (steps plan.now) }
 {
     start(file, state);
     follow(file, plan, state)

@@ -10,27 +10,27 @@ use lib.Seq.{length-take-le, take-length, take_at, drop_at, drop-drop, sets-eq, 
 use Rattle.writer.specs.Write.{overlay}
 
 module _ (out : List ℕ) (at : ℕ) where
-  pub overlay-nothing : out ≡ overlay out at []
+  pub overlay_nothing : out ≡ overlay out at []
   unfolding overlay
-  overlay-nothing = paste-zero out at []
+  overlay_nothing = paste-zero out at []
 
   -- a copy that is done
-  pub overlay-paste : (bytes : List ℕ) → overlay out at bytes ≡ paste out at bytes (length bytes)
+  pub overlay_paste : (bytes : List ℕ) → overlay out at bytes ≡ paste out at bytes (length bytes)
   unfolding overlay
-  overlay-paste bytes = rw (take-length bytes)
+  overlay_paste bytes = rw (take-length bytes)
 
-  pub length-overlay : (bytes : List ℕ) → at + length bytes ≤ length out → length (overlay out at bytes) ≡ length out
-  length-overlay bytes h = rw (overlay-paste bytes) (length-paste out at bytes (length bytes) h (omega arith))
+  pub length_overlay : (bytes : List ℕ) → at + length bytes ≤ length out → length (overlay out at bytes) ≡ length out
+  length_overlay bytes h = rw (overlay_paste bytes) (length-paste out at bytes (length bytes) h (omega arith))
 
   -- two stores, one behind the other
-  pub overlay-stores : (a b : ℕ) → at + 2 ≤ length out → set (set out at a) (at + 1) b ≡ overlay out at (a ∷ b ∷ [])
+  pub overlay_stores : (a b : ℕ) → at + 2 ≤ length out → set (set out at a) (at + 1) b ≡ overlay out at (a ∷ b ∷ [])
   unfolding overlay
-  overlay-stores a b h = rw add-one (sets-eq (a ∷ b ∷ []) out at h)
+  overlay_stores a b h = rw add-one (sets-eq (a ∷ b ∷ []) out at h)
 
   -- bytes, and then bytes behind them
-  pub overlay-behind : (xs ys : List ℕ) → at + length xs ≤ length out → overlay (overlay out at xs) (at + length xs) ys ≡ overlay out at (xs ++ ys)
+  pub overlay_behind : (xs ys : List ℕ) → at + length xs ≤ length out → overlay (overlay out at xs) (at + length xs) ys ≡ overlay out at (xs ++ ys)
   unfolding overlay
-  overlay-behind xs ys h =
+  overlay_behind xs ys h =
       let front : List ℕ = take at out ++ xs in
       let long : length front ≡ at + length xs = length-append (take at out) xs ∙ ap (λ (n : ℕ). n + length xs) (length-take-le at out (omega arith)) in
       let past : drop (at + length xs + length ys) (front ++ drop (at + length xs) out) ≡ drop (at + length xs + length ys) out =
@@ -41,13 +41,13 @@ module _ (out : List ℕ) (at : ℕ) where
       ∙ ap (λ (r : List ℕ). front ++ ys ++ r) past
       ∙ rw (length-append xs ys, append_assoc (take at out) xs ys, add_assoc at (length xs) (length ys))
 
-  pub overlay-next : (to : ℕ) (xs ys : List ℕ) → at + length xs ≡ to → to ≤ length out → overlay (overlay out at xs) to ys ≡ overlay out at (xs ++ ys)
-  overlay-next to xs ys e h = rw (← e) (overlay-behind xs ys (omega arith))
+  pub overlay_next : (to : ℕ) (xs ys : List ℕ) → at + length xs ≡ to → to ≤ length out → overlay (overlay out at xs) to ys ≡ overlay out at (xs ++ ys)
+  overlay_next to xs ys e h = rw (← e) (overlay_behind xs ys (omega arith))
 
 -- bytes in front
-pub overlay-front : (out bytes : List ℕ) → overlay out 0 bytes ≡ bytes ++ drop (length bytes) out
+pub overlay_front : (out bytes : List ℕ) → overlay out 0 bytes ≡ bytes ++ drop (length bytes) out
 unfolding overlay
-overlay-front out bytes = rw (zero-add (length bytes))
+overlay_front out bytes = rw (zero-add (length bytes))
 
 -- ---- a copy in a loop: the first i bytes are there
 module _ (out₀ : List ℕ) (at : ℕ) (bytes : List ℕ) where
@@ -67,7 +67,7 @@ module _ (out₀ : List ℕ) (at : ℕ) (bytes : List ℕ) where
         is = rw (c.is, add-one) (paste-suc out₀ at bytes i 0 (omega arith) lt);
       }
 
-  pub copied-done : (out : List ℕ) (i : ℕ) → length bytes ≤ i → Copied out i → out ≡ overlay out₀ at bytes
-  copied-done out i ge c =
+  pub copied_done : (out : List ℕ) (i : ℕ) → length bytes ≤ i → Copied out i → out ≡ overlay out₀ at bytes
+  copied_done out i ge c =
       let e : i ≡ length bytes = le_antisymm c.few ge in
-      c.is ∙ rw e (sym (overlay-paste out₀ at bytes))
+      c.is ∙ rw e (sym (overlay_paste out₀ at bytes))

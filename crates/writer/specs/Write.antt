@@ -1,17 +1,17 @@
 -- The writer's answer, and what it leaves in the list that is lent for its output (document 02, Paper 2).
 use Rattle.std.specs.Prelude.{ℕ, ◌+◌, List, ◌++◌, leb, length, take, drop}
 use Rattle.planning.specs.Connectives.{pick}
-use Rattle.task.specs.Check.{checkOf, accepted}
+use Rattle.task.specs.Check.{check_of, accepted}
 use Rattle.writer.specs.declared.Written.{Written}
 use Rattle.writer.specs.declared.Written.TheVariants.{Unread, Short, Whole}
 use Rattle.writer.specs.Canonical.{written}
 
 -- with room for so many bytes: 1 to 10, then 22
-unfoldable pub writeOf : List ℕ → ℕ → Written
-writeOf f room =
+unfoldable pub write_of : List ℕ → ℕ → Written
+write_of f room =
     pick (accepted f)
     (pick (leb (length (written f)) room) (Whole (length (written f))) Short)
-    (Unread (checkOf f).0 (checkOf f).1)
+    (Unread (check_of f).0 (check_of f).1)
 
 -- the list afterwards: on success it begins with the file and keeps the bytes past it, after a refusal it is as it was
 unfoldable pub leaves : Written → List ℕ → List ℕ → List ℕ

@@ -1,11 +1,11 @@
 // The writer: a task's canonical file, its sections in order and without gaps, so that files of one task can be compared by their bytes.
 ghost use Rattle.std.specs.Prelude.{◌≡◌, true, ◌+◌, ◌≤◌, ◌<◌, length, get_or};
 ghost use mathlib.Core.List.{[], flatten};
-ghost use Rattle.task.specs.Limits.{headerBytes};
+ghost use Rattle.task.specs.Limits.{header_bytes};
 ghost use Rattle.task.specs.Bytes.{Reads, bytes16, bytes32};
 ghost use Rattle.task.specs.Check.{accepted};
-ghost use Rattle.writer.specs.Canonical.{sections, sectionCount, begin, counts, offsets};
-ghost use Rattle.writer.specs.Write.{overlay, writeOf, leaves};
+ghost use Rattle.writer.specs.Canonical.{sections, section_count, begin, counts, offsets};
+ghost use Rattle.writer.specs.Write.{overlay, write_of, leaves};
 
 use task::bytes::part;
 use task::header::{bound, operators, operators_at, terms, terms_at, variables, variables_at};
@@ -28,7 +28,7 @@ const SECTIONS: usize = 3;
 
 // Section k, in the order in which they are written, as the part of the file that holds it.
 fn section(file: &[u8], k: usize) -> &[u8]
-    requires { (accepted file.now ≡ true) × (k < sectionCount) }
+    requires { (accepted file.now ≡ true) × (k < section_count) }
     ensures { result.now ≡ get_or (sections file.now) k [] }
 {
     if k == 0 {
@@ -42,7 +42,7 @@ fn section(file: &[u8], k: usize) -> &[u8]
 
 // Where section k is to begin: behind the header and the sections before it; for SECTIONS, where the written file ends.
 fn begin(file: &[u8], k: usize) -> usize
-    requires { (accepted file.now ≡ true) × (k ≤ sectionCount) }
+    requires { (accepted file.now ≡ true) × (k ≤ section_count) }
     ensures { Reads result (begin file.now k) 4294967296 }
 {
     let mut at = HEADER_BYTES;
@@ -86,7 +86,7 @@ fn put32(out: &mut [u8], at: usize, x: usize)
 
 // Writes the letters, the counts and the bound.
 fn put_counts(file: &[u8], out: &mut [u8])
-    requires { headerBytes ≤ length out.old }
+    requires { header_bytes ≤ length out.old }
     ensures { out.new ≡ overlay out.old 0 (counts file.now) }
 {
     copy(out, 0, b"BPT1");
@@ -98,7 +98,7 @@ fn put_counts(file: &[u8], out: &mut [u8])
 
 // Writes where the sections begin, and the length.
 fn put_offsets(file: &[u8], out: &mut [u8])
-    requires { (accepted file.now ≡ true) × (headerBytes ≤ length out.old) }
+    requires { (accepted file.now ≡ true) × (header_bytes ≤ length out.old) }
     ensures { out.new ≡ overlay out.old 12 (offsets file.now) }
 {
     put32(out, 12, begin(file, 0));
@@ -109,8 +109,8 @@ fn put_offsets(file: &[u8], out: &mut [u8])
 
 // Writes the sections one behind the other.
 fn put_sections(file: &[u8], out: &mut [u8])
-    requires { (accepted file.now ≡ true) × (begin file.now sectionCount ≤ length out.old) }
-    ensures { out.new ≡ overlay out.old headerBytes (flatten (sections file.now)) }
+    requires { (accepted file.now ≡ true) × (begin file.now section_count ≤ length out.old) }
+    ensures { out.new ≡ overlay out.old header_bytes (flatten (sections file.now)) }
 {
     let mut k = 0;
     while k < SECTIONS {
@@ -124,7 +124,7 @@ pub fn write(file: &[u8], out: &mut [u8]) -> Written
     ensures { let f = file.now in
         let before = out.old in
         let after = out.new in
-        (result ≡ writeOf f (length before)) × (after ≡ leaves result f before) }
+        (result ≡ write_of f (length before)) × (after ≡ leaves result f before) }
 {
     match check(file) {
         Checked::Refused { number, place } => Written::Unread { number, place },

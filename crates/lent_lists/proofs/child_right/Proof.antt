@@ -1,7 +1,7 @@
 -- `lent_lists::child_right` meets its contract.
 use borrow.Author.Rules.{rules}
 use Rattle.planning.proofs.Guards.{tests}
-use Rattle.lent_lists.specs.Lists.{childRight}
+use Rattle.lent_lists.specs.Lists.{child_right}
 use Rattle.lent_lists.proofs.child_right.Statement.{statement}
 use Rattle.lent_lists.proofs.child_right.Tie as tie
 
@@ -12,15 +12,15 @@ number-requires-2 : tie.Need-number-requires-2
 number-requires-2 c κs = search rules
 
 returns : tie.Need-returns
-unfolding childRight
+unfolding child_right
 returns c = search tests
 
 returns-2 : tie.Need-returns-2
-unfolding childRight
+unfolding child_right
 returns-2 c = search tests
 
 returns-3 : tie.Need-returns-3
-unfolding childRight
+unfolding child_right
 returns-3 c = search tests
 
 pub child-right-spec : {M : Type 1} → statement M

@@ -1,19 +1,19 @@
 -- `lent_lists::lists_wrong` meets its contract.
 use Rattle.planning.proofs.Guards.{tests}
-use Rattle.lent_lists.specs.Lists.{listsWrong}
+use Rattle.lent_lists.specs.Lists.{lists_wrong}
 use Rattle.lent_lists.proofs.lists_wrong.Statement.{statement}
 use Rattle.lent_lists.proofs.lists_wrong.Tie as tie
 
 returns : tie.Need-returns
-unfolding listsWrong
+unfolding lists_wrong
 returns c = search tests
 
 returns-2 : tie.Need-returns-2
-unfolding listsWrong
+unfolding lists_wrong
 returns-2 c = search tests
 
 returns-3 : tie.Need-returns-3
-unfolding listsWrong
+unfolding lists_wrong
 returns-3 c = search tests
 
 pub lists-wrong-spec : {M : Type 1} → statement M

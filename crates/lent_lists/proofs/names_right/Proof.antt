@@ -2,28 +2,28 @@
 use Prim.Native.Nat.{◌-◌}
 use native.Mathlib.Omega.{arith}
 use Rattle.planning.proofs.Guards.{wrong, right}
-use Rattle.planning.proofs.Scan.{EveryFrom, every-none, every_more, every-stop, every-done}
-use Rattle.lent_lists.specs.Lists.{setRight, namesRight}
+use Rattle.planning.proofs.Scan.{EveryFrom, every_none, every_more, every_stop, every_done}
+use Rattle.lent_lists.specs.Lists.{set_right, names_right}
 use Rattle.lent_lists.proofs.names_right.Statement.{statement}
 use Rattle.lent_lists.proofs.names_right.Tie as tie
 
 abbrev invariant-loop : tie.invariant-loop
-invariant-loop sets pairs count i₀ i = EveryFrom (setRight sets count) pairs i
+invariant-loop sets pairs count i₀ i = EveryFrom (set_right sets count) pairs i
 
 abbrev decreases-loop : tie.decreases-loop
 decreases-loop sets pairs count i₀ i = pairs - i
 
 loop-holds : tie.Need-loop-init invariant-loop decreases-loop
-loop-holds c = every-none _ _
+loop-holds c = every_none _ _
 
 set-right-requires : tie.Need-set-right-requires invariant-loop decreases-loop
 set-right-requires c κs = omega arith
 
 returns : tie.Need-returns invariant-loop decreases-loop
-unfolding namesRight
+unfolding names_right
 returns c =
     let t = c.before.before in
-    every-stop _ _ _ t.loop-test.true t.before.loop.invariant (wrong _ _ c.before.set-right.ensures c.if1.true)
+    every_stop _ _ _ t.loop-test.true t.before.loop.invariant (wrong _ _ c.before.set-right.ensures c.if1.true)
 
 add-i : tie.Need-overflow-add-i invariant-loop decreases-loop
 add-i c = omega arith
@@ -37,8 +37,8 @@ loop-again c =
     every_more _ _ _ t.loop-test.true t.before.loop.invariant (right _ _ c.before.set-right.ensures c.if1.false)
 
 returns-2 : tie.Need-returns-2 invariant-loop decreases-loop
-unfolding namesRight
-returns-2 c = every-done _ _ _ c.loop-test.false c.before.loop.invariant
+unfolding names_right
+returns-2 c = every_done _ _ _ c.loop-test.false c.before.loop.invariant
 
 pub names-right-spec : {M : Type 1} → statement M
 names-right-spec =

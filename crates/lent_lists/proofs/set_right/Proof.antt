@@ -1,6 +1,6 @@
 -- `lent_lists::set_right` meets its contract.
 use borrow.Author.Rules.{rules}
-use Rattle.lent_lists.specs.Lists.{setRight}
+use Rattle.lent_lists.specs.Lists.{set_right}
 use Rattle.lent_lists.proofs.set_right.Statement.{statement}
 use Rattle.lent_lists.proofs.set_right.Tie as tie
 
@@ -11,7 +11,7 @@ name-right-requires : tie.Need-name-right-requires
 name-right-requires c κs = search rules
 
 returns : tie.Need-returns
-unfolding setRight
+unfolding set_right
 returns c = cc
 
 pub set-right-spec : {M : Type 1} → statement M

@@ -23,7 +23,7 @@ operator-cost-requires : tie.Need-operator-cost-requires invariant-loop decrease
 operator-cost-requires c κs = tt
 
 add-so-far : tie.Need-overflow-add-so-far invariant-loop decreases-loop
-add-so-far c = omega (arith, c.operator-cost.ensures.small)
+add-so-far c = omega (arith, c.operator_cost.ensures.small)
 
 print-step-requires : tie.Need-print-step-requires invariant-loop decreases-loop
 print-step-requires c κs = tt
@@ -35,7 +35,7 @@ loop-less : tie.Need-loop-smaller invariant-loop decreases-loop
 loop-less c = omega arith
 
 loop-again : tie.Need-loop-preserved invariant-loop decreases-loop
-loop-again c = omega (arith, c.before.operator-cost.ensures.small)
+loop-again c = omega (arith, c.before.operator_cost.ensures.small)
 
 returns : tie.Need-returns invariant-loop decreases-loop
 returns c = tt

@@ -4,7 +4,7 @@ use mathlib.Core.Path.{sym, ◌∙◌}
 use native.Mathlib.Omega.{arith}
 use Rattle.diagrams.specs.Tree.{trees}
 use Rattle.question.specs.PairSets.{held_at}
-use Rattle.question.proofs.Places.{LeftFrom, place_none, place-more, place-stop, place-done}
+use Rattle.question.proofs.Places.{LeftFrom, place_none, place_more, place_stop, place_done}
 use Rattle.question.proofs.place.Statement.{statement}
 use Rattle.question.proofs.place.Tie as tie
 
@@ -39,7 +39,7 @@ mul-t16 : tie.Need-overflow-mul-t16 invariant-loop decreases-loop
 mul-t16 c = omega arith
 
 shared-slice-read-t18 : tie.Need-shared-slice-read-t18 invariant-loop decreases-loop
-shared-slice-read-t18 c = omega (arith, (start (at-loop c.before)).pre.costs-room)
+shared-slice-read-t18 c = omega (arith, (start (at-loop c.before)).pre.costs_room)
 
 cast-t19 : tie.Need-overflow-cast-t19 invariant-loop decreases-loop
 cast-t19 c = omega (arith, c.shared-slice-known8.given (at-loop c.before).loop.i)
@@ -48,7 +48,7 @@ mul-t20 : tie.Need-overflow-mul-t20 invariant-loop decreases-loop
 mul-t20 c = omega arith
 
 shared-slice-read-t22 : tie.Need-shared-slice-read-t22 invariant-loop decreases-loop
-shared-slice-read-t22 c = omega (arith, (start (at-loop c.before.before)).pre.steps-room)
+shared-slice-read-t22 c = omega (arith, (start (at-loop c.before.before)).pre.steps_room)
 
 cast-t23 : tie.Need-overflow-cast-t23 invariant-loop decreases-loop
 cast-t23 c = omega (arith, c.shared-slice-known9.given (at-loop c.before.before).loop.i)
@@ -58,7 +58,7 @@ unfolding held_at
 returns c =
     let h = c.before.before in
     let t = h.before.before.before in
-    place-stop _ _ _ _ _ t.loop-test.true t.before.loop.invariant (sym h.before.member.ensures ∙ h.if1.true)
+    place_stop _ _ _ _ _ t.loop-test.true t.before.loop.invariant (sym h.before.member.ensures ∙ h.if1.true)
 
 add-i : tie.Need-overflow-add-i invariant-loop decreases-loop
 add-i c = omega arith
@@ -70,10 +70,10 @@ loop-again : tie.Need-loop-preserved invariant-loop decreases-loop
 unfolding held_at
 loop-again c =
     let t = c.before.before.before in
-    place-more _ _ _ _ _ t.loop-test.true t.before.loop.invariant (sym c.before.member.ensures ∙ c.if1.false)
+    place_more _ _ _ _ _ t.loop-test.true t.before.loop.invariant (sym c.before.member.ensures ∙ c.if1.false)
 
 returns-2 : tie.Need-returns-2 invariant-loop decreases-loop
-returns-2 c = place-done _ _ _ _ _ c.loop-test.false c.before.loop.invariant
+returns-2 c = place_done _ _ _ _ _ c.loop-test.false c.before.loop.invariant
 
 pub place-spec : {M : Type 1} → statement M
 place-spec =

@@ -1,6 +1,6 @@
 -- `question::question` meets its contract.
-use Rattle.task_check.proofs.Laws.{told-accepted, told-refused}
-use Rattle.question.proofs.Asking.{file-refused, asked_is}
+use Rattle.task_check.proofs.Laws.{told_accepted, told_refused}
+use Rattle.question.proofs.Asking.{file_refused, asked_is}
 use borrow.Author.Rules.{rules}
 use Rattle.question.proofs.question.Statement.{statement}
 use Rattle.question.proofs.question.Tie as tie
@@ -13,17 +13,17 @@ enum-known-number c = search rules
 
 returns : tie.Need-returns
 returns c =
-    let told = told-refused _ _ c.before.before.before.check.ensures _ _ c.before.number.given.1 in
-    file-refused _ _ _ _ _ _ _ _ _ _ _ _ _ told.0 told.1
+    let told = told_refused _ _ c.before.before.before.check.ensures _ _ c.before.number.given.1 in
+    file_refused _ _ _ _ _ _ _ _ _ _ _ _ _ told.0 told.1
 
 enum_told : tie.Need-enum-told
 enum_told c = search rules
 
 ask-requires : tie.Need-ask-requires
-ask-requires c κs = told-accepted _ _ c.before.before.check.ensures c.enum_told.given.1
+ask-requires c κs = told_accepted _ _ c.before.before.check.ensures c.enum_told.given.1
 
 returns-2 : tie.Need-returns-2
-returns-2 c = asked_is _ _ _ _ _ _ _ _ _ _ _ _ (told-accepted _ _ c.before.before.before.check.ensures c.before.enum_told.given.1) c.ask.ensures
+returns-2 c = asked_is _ _ _ _ _ _ _ _ _ _ _ _ (told_accepted _ _ c.before.before.before.check.ensures c.before.enum_told.given.1) c.ask.ensures
 
 pub question-spec : {M : Type 1} → statement M
 question-spec =

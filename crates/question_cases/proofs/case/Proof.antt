@@ -1,5 +1,5 @@
 -- `question_cases::case` meets its contract.
-use Rattle.question_cases.proofs.Parts.{part-long, row-long}
+use Rattle.question_cases.proofs.Parts.{part_long, row_long}
 use borrow.Author.Rules.{rules}
 use Rattle.question_cases.proofs.case.Statement.{statement}
 use Rattle.question_cases.proofs.case.Tie as tie
@@ -8,7 +8,7 @@ colon-requires : tie.Need-colon-requires
 colon-requires c κs = search rules
 
 slice-aggregate-write-all : tie.Need-slice-aggregate-write-all
-slice-aggregate-write-all c = part-long _ _ c.before.colon.ensures
+slice-aggregate-write-all c = part_long _ _ c.before.colon.ensures
 
 write-all-requires : tie.Need-write-all-requires
 write-all-requires c κs = search rules
@@ -26,7 +26,7 @@ array-share-prefix-state : tie.Need-array-share-prefix-state
 array-share-prefix-state c = search rules
 
 slice-aggregate-with-pairs : tie.Need-slice-aggregate-with-pairs
-slice-aggregate-with-pairs c = row-long _ _ c.before.before.digits.ensures c.before.values.ensures
+slice-aggregate-with-pairs c = row_long _ _ c.before.before.digits.ensures c.before.values.ensures
 
 add-with-pairs : tie.Need-overflow-add-with-pairs
 add-with-pairs c = search rules

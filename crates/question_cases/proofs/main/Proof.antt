@@ -4,7 +4,7 @@ use mathlib.Core.Path.{◌≡◌}
 use native.Mathlib.Omega.{arith}
 use mathlib.Core.Logic.{⊎_elim}
 use lib.ListN.{length}
-use Rattle.question_cases.proofs.Parts.{part-most}
+use Rattle.question_cases.proofs.Parts.{part_most}
 use Rattle.question_cases.proofs.main.Statement.{statement}
 use Rattle.question_cases.proofs.main.Tie as tie
 
@@ -32,7 +32,7 @@ slice-aggregate-text c = c.before.before.read-full.ensures.1
 loop-holds : tie.Need-loop-init invariant-loop decreases-loop
 loop-holds c =
     let got = c.before.before.read-full in
-    (omega arith, omega arith, got.ensures.1, part-most got.result 4096 got.new.1.0 (omega (arith, got.ensures.0, got.auto.1.0, c.before.before.before.before.buffer.ensures)))
+    (omega arith, omega arith, got.ensures.1, part_most got.result 4096 got.new.1.0 (omega (arith, got.ensures.0, got.auto.1.0, c.before.before.before.before.buffer.ensures)))
 
 shared-slice-read-if1 : tie.Need-shared-slice-read-if1 invariant-loop decreases-loop
 shared-slice-read-if1 c = omega arith
@@ -49,7 +49,7 @@ part-case-end c = omega arith
 case-requires : tie.Need-case-requires invariant-loop decreases-loop
 case-requires c κs =
     let at = c.before.before.before.before.before in
-    part-most (at.loop.i - at.loop.start) 4096 _ (omega (arith, at.loop.invariant.1, at.loop.invariant.2, at.loop.invariant.3))
+    part_most (at.loop.i - at.loop.start) 4096 _ (omega (arith, at.loop.invariant.1, at.loop.invariant.2, at.loop.invariant.3))
 
 add_start : tie.Need-overflow-add-start invariant-loop decreases-loop
 add_start c = omega arith

@@ -1,5 +1,5 @@
 -- `question_cases::with_nodes` meets its contract.
-use Rattle.question_cases.proofs.Parts.{row-long}
+use Rattle.question_cases.proofs.Parts.{row_long}
 use borrow.Author.Rules.{rules}
 use Rattle.question_cases.proofs.with_nodes.Statement.{statement}
 use Rattle.question_cases.proofs.with_nodes.Tie as tie
@@ -53,19 +53,19 @@ array-share-prefix-bit : tie.Need-array-share-prefix-bit
 array-share-prefix-bit c = search rules
 
 slice-aggregate-question : tie.Need-slice-aggregate-question
-slice-aggregate-question c = row-long _ _ c.before.before.before.before.before.before.before.before.digits.ensures c.before.before.before.before.before.before.before.numbers.ensures
+slice-aggregate-question c = row_long _ _ c.before.before.before.before.before.before.before.before.digits.ensures c.before.before.before.before.before.before.before.numbers.ensures
 
 array-share-prefix-low : tie.Need-array-share-prefix-low
 array-share-prefix-low c = search rules
 
 slice-aggregate-question-2 : tie.Need-slice-aggregate-question-2
-slice-aggregate-question-2 c = row-long _ _ c.before.before.before.before.before.before.before.digits2.ensures c.before.before.before.before.before.before.numbers2.ensures
+slice-aggregate-question-2 c = row_long _ _ c.before.before.before.before.before.before.before.digits2.ensures c.before.before.before.before.before.before.numbers2.ensures
 
 array-share-prefix-high : tie.Need-array-share-prefix-high
 array-share-prefix-high c = search rules
 
 slice-aggregate-question-3 : tie.Need-slice-aggregate-question-3
-slice-aggregate-question-3 c = row-long _ _ c.before.before.before.before.before.before.digits3.ensures c.before.before.before.before.before.numbers3.ensures
+slice-aggregate-question-3 c = row_long _ _ c.before.before.before.before.before.before.digits3.ensures c.before.before.before.before.before.numbers3.ensures
 
 question-requires : tie.Need-question-requires
 question-requires c κs = search rules

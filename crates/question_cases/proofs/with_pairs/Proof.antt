@@ -1,5 +1,5 @@
 -- `question_cases::with_pairs` meets its contract.
-use Rattle.question_cases.proofs.Parts.{row-long}
+use Rattle.question_cases.proofs.Parts.{row_long}
 use borrow.Author.Rules.{rules}
 use Rattle.question_cases.proofs.with_pairs.Statement.{statement}
 use Rattle.question_cases.proofs.with_pairs.Tie as tie
@@ -50,25 +50,25 @@ array-share-prefix-costs : tie.Need-array-share-prefix-costs
 array-share-prefix-costs c = search rules
 
 slice-aggregate-with-nodes : tie.Need-slice-aggregate-with-nodes
-slice-aggregate-with-nodes c = row-long _ _ c.before.before.before.before.before.before.before.before.digits.ensures c.before.before.before.before.before.before.before.numbers.ensures
+slice-aggregate-with-nodes c = row_long _ _ c.before.before.before.before.before.before.before.before.digits.ensures c.before.before.before.before.before.before.before.numbers.ensures
 
 array-share-prefix-steps : tie.Need-array-share-prefix-steps
 array-share-prefix-steps c = search rules
 
 slice-aggregate-with-nodes-2 : tie.Need-slice-aggregate-with-nodes-2
-slice-aggregate-with-nodes-2 c = row-long _ _ c.before.before.before.before.before.before.before.digits2.ensures c.before.before.before.before.before.before.numbers2.ensures
+slice-aggregate-with-nodes-2 c = row_long _ _ c.before.before.before.before.before.before.before.digits2.ensures c.before.before.before.before.before.before.numbers2.ensures
 
 array-share-prefix-sets : tie.Need-array-share-prefix-sets
 array-share-prefix-sets c = search rules
 
 slice-aggregate-with-nodes-3 : tie.Need-slice-aggregate-with-nodes-3
-slice-aggregate-with-nodes-3 c = row-long _ _ c.before.before.before.before.before.before.digits3.ensures c.before.before.before.before.before.numbers3.ensures
+slice-aggregate-with-nodes-3 c = row_long _ _ c.before.before.before.before.before.before.digits3.ensures c.before.before.before.before.before.numbers3.ensures
 
 array-share-prefix-wanted : tie.Need-array-share-prefix-wanted
 array-share-prefix-wanted c = search rules
 
 slice-aggregate-with-nodes-4 : tie.Need-slice-aggregate-with-nodes-4
-slice-aggregate-with-nodes-4 c = row-long _ _ c.before.before.before.before.before.digits4.ensures c.before.before.before.before.numbers4.ensures
+slice-aggregate-with-nodes-4 c = row_long _ _ c.before.before.before.before.before.digits4.ensures c.before.before.before.before.numbers4.ensures
 
 add-with-nodes : tie.Need-overflow-add-with-nodes
 add-with-nodes c = search rules

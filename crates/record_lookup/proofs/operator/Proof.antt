@@ -3,7 +3,7 @@ use mathlib.Core.Path.{◌∙◌}
 use native.Mathlib.Omega.{arith}
 use borrow.Author.Rules.{rules}
 use Rattle.planning.proofs.Guards.{wrong, right}
-use Rattle.record_lookup.proofs.Laws.{part-refused, part_none, part-record}
+use Rattle.record_lookup.proofs.Laws.{part_refused, part_none, part_record}
 use Rattle.record_lookup.proofs.operator.Statement.{statement}
 use Rattle.record_lookup.proofs.operator.Tie as tie
 
@@ -14,7 +14,7 @@ slice-aggregate-result : tie.Need-slice-aggregate-result
 slice-aggregate-result c = search rules
 
 returns : tie.Need-returns
-returns c = part-refused _ _ (wrong _ _ c.before.before.accepted.ensures c.before.if1.true)
+returns c = part_refused _ _ (wrong _ _ c.before.before.accepted.ensures c.before.if1.true)
 
 operators-requires : tie.Need-operators-requires
 operators-requires c κs = search rules
@@ -33,7 +33,7 @@ operator-record-requires c κs = search rules
 returns-3 : tie.Need-returns-3
 returns-3 c =
     let n = c.before.before in
-    c.operator-record.ensures ∙ part-record _ _ (right _ _ n.before.before.accepted.ensures n.before.if1.false) (omega (arith, n.operators.ensures.is))
+    c.operator-record.ensures ∙ part_record _ _ (right _ _ n.before.before.accepted.ensures n.before.if1.false) (omega (arith, n.operators.ensures.is))
 
 pub operator-spec : {M : Type 1} → statement M
 operator-spec =

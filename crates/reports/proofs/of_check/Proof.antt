@@ -3,7 +3,7 @@ use borrow.Author.Rules.{rules}
 use mathlib.Core.Path.{sym, ap, ◌∙◌}
 use Rattle.task_check.specs.Answers.{answer}
 use Rattle.task_check.specs.declared.Checked.{Checked}
-use Rattle.reports.specs.Reported.{checkNumbers}
+use Rattle.reports.specs.Reported.{check_numbers}
 use Rattle.reports.proofs.of_check.Statement.{statement}
 use Rattle.reports.proofs.of_check.Tie as tie
 
@@ -26,10 +26,10 @@ reply-requires-2 : tie.Need-reply-requires-2
 reply-requires-2 c κs = search rules
 
 returns : tie.Need-returns
-returns c = c.reply.ensures ∙ ap (λ (a : Checked). checkNumbers (answer a)) (sym c.before.enum_told.given.1)
+returns c = c.reply.ensures ∙ ap (λ (a : Checked). check_numbers (answer a)) (sym c.before.enum_told.given.1)
 
 returns-2 : tie.Need-returns-2
-returns-2 c = c.reply2.ensures ∙ ap (λ (a : Checked). checkNumbers (answer a)) (sym c.before.before.told.given.1)
+returns-2 c = c.reply2.ensures ∙ ap (λ (a : Checked). check_numbers (answer a)) (sym c.before.before.told.given.1)
 
 pub of-check-spec : {M : Type 1} → statement M
 of-check-spec =

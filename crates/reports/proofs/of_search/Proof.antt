@@ -1,7 +1,7 @@
 -- Each case of the answer has its number and figures.
 use borrow.Author.Rules.{rules}
 use mathlib.Core.Path.{sym, ap, ◌∙◌}
-use Rattle.reports.specs.Totals.{totalsWith, totalsOf}
+use Rattle.reports.specs.Totals.{totals_with, totals_of}
 use Rattle.reports.proofs.of_search.Statement.{statement}
 use Rattle.reports.proofs.of_search.Tie as tie
 
@@ -28,11 +28,11 @@ totals-with-requires-2 c κs = search rules
 
 returns : tie.Need-returns
 returns c = c.totals-with.ensures
-    ∙ ap (totalsWith _ _) c.before.no-figures.ensures
-    ∙ ap totalsOf (sym c.before.before.before.told.given.1)
+    ∙ ap (totals_with _ _) c.before.no-figures.ensures
+    ∙ ap totals_of (sym c.before.before.before.told.given.1)
 
 returns-2 : tie.Need-returns-2
-returns-2 c = c.totals-with2.ensures ∙ ap totalsOf (sym c.before.before.told2.given.1)
+returns-2 c = c.totals-with2.ensures ∙ ap totals_of (sym c.before.before.told2.given.1)
 
 pub of-search-spec : {M : Type 1} → statement M
 of-search-spec =

@@ -1,7 +1,7 @@
 -- Each case of the answer has its number and figures.
 use borrow.Author.Rules.{rules}
 use mathlib.Core.Path.{sym, ap, ◌∙◌}
-use Rattle.reports.specs.Tallies.{tallyWith, tally_of}
+use Rattle.reports.specs.Tallies.{tally_with, tally_of}
 use Rattle.reports.proofs.of_states.Statement.{statement}
 use Rattle.reports.proofs.of_states.Tie as tie
 
@@ -28,7 +28,7 @@ tally-with-requires-2 c κs = search rules
 
 returns : tie.Need-returns
 returns c = c.tally-with.ensures
-    ∙ ap (tallyWith _ _) c.before.no-summary.ensures
+    ∙ ap (tally_with _ _) c.before.no-summary.ensures
     ∙ ap tally_of (sym c.before.before.before.told.given.1)
 
 returns-2 : tie.Need-returns-2

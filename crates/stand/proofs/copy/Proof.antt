@@ -4,7 +4,7 @@ use mathlib.Core.Path.{◌≡◌, refl, ◌∙◌}
 use native.Mathlib.Omega.{arith}
 use borrow.Author.Rules.{rules}
 use lib.ListN.{length}
-use Rattle.stand.proofs.Writes.{Copied, copy-none, copy_more, copy_done}
+use Rattle.stand.proofs.Writes.{Copied, copy_none, copy_more, copy_done}
 use Rattle.stand.proofs.copy.Statement.{statement}
 use Rattle.stand.proofs.copy.Tie as tie
 
@@ -15,7 +15,7 @@ abbrev decreases-loop : tie.decreases-loop
 decreases-loop file₀ at bytes i₀ file i = length bytes - i
 
 loop-holds : tie.Need-loop-init invariant-loop decreases-loop
-loop-holds c = (omega arith, (refl, copy-none _ _ _))
+loop-holds c = (omega arith, (refl, copy_none _ _ _))
 
 add-set8 : tie.Need-overflow-add-set8 invariant-loop decreases-loop
 add-set8 c = omega arith

@@ -1,5 +1,5 @@
 -- Written to zeros, byte by byte, the parts are the file.
-use Rattle.stand.specs.Bytes.{overlay, putSizes}
+use Rattle.stand.specs.Bytes.{overlay, put_sizes}
 use borrow.Author.Rules.{rules}
 use Rattle.stand.proofs.plain.Statement.{statement}
 use Rattle.stand.proofs.plain.Tie as tie
@@ -41,7 +41,7 @@ same_length : tie.Need-same-length
 same_length c = search rules
 
 returns : tie.Need-returns
-unfolding overlay putSizes
+unfolding overlay put_sizes
 returns c =
     let a5 = c.before.before in
     let a4 = a5.before.before.before.before.before in

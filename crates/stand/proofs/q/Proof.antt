@@ -1,6 +1,6 @@
 -- Written to zeros, byte by byte, the parts are the file.
 use mathlib.Core.Path.{◌∙◌}
-use Rattle.stand.specs.Bytes.{overlay, putSizes}
+use Rattle.stand.specs.Bytes.{overlay, put_sizes}
 use borrow.Author.Rules.{rules}
 use Rattle.stand.proofs.q.Statement.{statement}
 use Rattle.stand.proofs.q.Tie as tie
@@ -65,7 +65,7 @@ same_length c =
     a7.copy.auto.0 ∙ a6.operator4.auto.0 ∙ a5.operator3.auto.0 ∙ a4.operator2.auto.0 ∙ a3.operator.auto.0 ∙ a2.variables.auto.0 ∙ a1.header.auto.0
 
 returns : tie.Need-returns
-unfolding overlay putSizes
+unfolding overlay put_sizes
 returns c =
     let a7 = c.before.before in
     let a6 = a7.before.before.before.before.before in

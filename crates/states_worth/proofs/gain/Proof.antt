@@ -1,6 +1,6 @@
 -- `states_worth::gain` meets its contract: the weight where the term's facts hold, and nothing elsewhere. Assumes nothing.
 use borrow.Author.Rules.{rules}
-use Rattle.states_worth.proofs.Sums.{gain-yes, gain-no}
+use Rattle.states_worth.proofs.Sums.{gain_yes, gain_no}
 use Rattle.states_worth.proofs.gain.Statement.{statement}
 use Rattle.states_worth.proofs.gain.Tie as tie
 
@@ -41,10 +41,10 @@ shared-slice-read-result : tie.Need-shared-slice-read-result
 shared-slice-read-result c = search rules
 
 returns : tie.Need-returns
-returns c = gain-yes _ _ _ _ c.before.before.meets.ensures c.before.if1.true
+returns c = gain_yes _ _ _ _ c.before.before.meets.ensures c.before.if1.true
 
 returns-2 : tie.Need-returns-2
-returns-2 c = gain-no _ _ _ _ c.before.meets.ensures c.if1.false
+returns-2 c = gain_no _ _ _ _ c.before.meets.ensures c.if1.false
 
 pub gain-spec : {M : Type 1} → statement M
 gain-spec =

@@ -3,7 +3,7 @@ use borrow.Author.Rules.{rules}
 use native.Mathlib.Omega.{arith}
 use Prim.Native.Nat.{◌≤◌, ◌-◌}
 use mathlib.Core.Logic.{⊎_elim}
-use Rattle.states_worth.proofs.Sums.{TopOf, top_one, top-new, top-old, top-all}
+use Rattle.states_worth.proofs.Sums.{TopOf, top_one, top_new, top_old, top_all}
 use Rattle.states_worth.proofs.greatest.Statement.{statement}
 use Rattle.states_worth.proofs.greatest.Tie as tie
 
@@ -45,14 +45,14 @@ loop-again c =
     let t = a.args.table.now in
     let l = a.args.states.now in (
       ⊎_elim
-          (λ w. rw (w.1, w.2) (top-new t a.args.n l lp.i lp.utility lp.at v.result lp.invariant.0 v.ensures.0 w.0.taken))
-          (λ w. rw (w.1, w.2) (top-old t a.args.n l lp.i lp.utility lp.at v.result lp.invariant.0 v.ensures.0 w.0.left))
+          (λ w. rw (w.1, w.2) (top_new t a.args.n l lp.i lp.utility lp.at v.result lp.invariant.0 v.ensures.0 w.0.taken))
+          (λ w. rw (w.1, w.2) (top_old t a.args.n l lp.i lp.utility lp.at v.result lp.invariant.0 v.ensures.0 w.0.left))
           c.if1.branch,
       omega arith,
     )
 
 returns : tie.Need-returns invariant-loop decreases-loop
-returns c = top-all _ _ _ _ _ _ _ (omega arith) c.before.loop.invariant.0
+returns c = top_all _ _ _ _ _ _ _ (omega arith) c.before.loop.invariant.0
 
 pub greatest-spec : {M : Type 1} → statement M
 greatest-spec =

@@ -2,7 +2,7 @@
 use borrow.Author.Rules.{rules}
 use native.Mathlib.Omega.{arith}
 use lib.ListN.{length-set}
-use Rattle.states_worth.proofs.Rows.{few-terms, rows_before, row-length, writes-term}
+use Rattle.states_worth.proofs.Rows.{few_terms, rows_before, row_length, writes_term}
 use Rattle.states_worth.proofs.row.Statement.{statement}
 use Rattle.states_worth.proofs.row.Tie as tie
 
@@ -15,7 +15,7 @@ mul_at c = search rules
 term-weight-requires : tie.Need-term-weight-requires
 term-weight-requires c κs =
     let a = c.before.before.before in
-    omega (arith, a.requires.1, few-terms _ a.requires.0)
+    omega (arith, a.requires.1, few_terms _ a.requires.0)
 
 mul-table : tie.Need-overflow-mul-table
 mul-table c = search rules
@@ -50,7 +50,7 @@ returns c =
     let t = a.args.table.now in
     let q = c.before.term-cube.result in
     let w = c.term-weight.result in
-    (writes-term _ t a.args.j w q a.requires.2 c.term-weight.ensures c.before.term-cube.ensures, row-length t a.args.j w q.care q.value, rows_before t a.args.j w q.care q.value)
+    (writes_term _ t a.args.j w q a.requires.2 c.term-weight.ensures c.before.term-cube.ensures, row_length t a.args.j w q.care q.value, rows_before t a.args.j w q.care q.value)
 
 pub row-spec : {M : Type 1} → statement M
 row-spec =

@@ -3,7 +3,7 @@ use native.Mathlib.Omega.{arith}
 use Prim.Native.Nat.{◌-◌, ◌≤◌}
 use mathlib.Core.Path.{◌≡◌, refl, ◌∙◌}
 use lib.ListN.{length}
-use Rattle.states_worth.proofs.Rows.{Filled, fill_more, fill-all}
+use Rattle.states_worth.proofs.Rows.{Filled, fill_more, fill_all}
 use Rattle.states_worth.proofs.tabulate.Statement.{statement}
 use Rattle.states_worth.proofs.tabulate.Tie as tie
 
@@ -46,7 +46,7 @@ returns c =
     let a = c.before.before.before.before.before in
     let n = c.before.before.terms.ensures.is in
     let i = c.before.loop.invariant in
-    fill-all _ _ _ (omega (arith, a.requires.1, i.2)) (omega (arith, n, c.loop-test.false)) i.0
+    fill_all _ _ _ (omega (arith, a.requires.1, i.2)) (omega (arith, n, c.loop-test.false)) i.0
 
 pub tabulate-spec : {M : Type 1} → statement M
 tabulate-spec =

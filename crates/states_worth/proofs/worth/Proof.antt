@@ -1,7 +1,7 @@
 -- `states_worth::worth` meets its contract: the sum is that of the terms that the loop has passed. Assumes nothing.
 use native.Mathlib.Omega.{arith}
 use Prim.Native.Nat.{◌-◌}
-use Rattle.states_worth.proofs.Sums.{SumTo, sum-none, sum_more, sum_done, gain-small}
+use Rattle.states_worth.proofs.Sums.{SumTo, sum_none, sum_more, sum_done, gain_small}
 use Rattle.states_worth.proofs.worth.Statement.{statement}
 use Rattle.states_worth.proofs.worth.Tie as tie
 
@@ -12,7 +12,7 @@ abbrev decreases-loop : tie.decreases-loop
 decreases-loop table n s sum₀ j₀ sum j = n - j
 
 loop-holds : tie.Need-loop-init invariant-loop decreases-loop
-loop-holds c = sum-none _ _ _
+loop-holds c = sum_none _ _ _
 
 gain-requires : tie.Need-gain-requires invariant-loop decreases-loop
 gain-requires c κs = omega arith
@@ -21,7 +21,7 @@ add-sum : tie.Need-overflow-add-sum invariant-loop decreases-loop
 add-sum c =
     let a = c.before.before.before.before in
     let lp = c.before.before.loop in
-    let g = gain-small a.args.table.now a.args.n a.args.s lp.j c.gain.result a.requires c.before.loop-test.true c.gain.ensures in
+    let g = gain_small a.args.table.now a.args.n a.args.s lp.j c.gain.result a.requires c.before.loop-test.true c.gain.ensures in
     omega (arith, g, a.requires.few)
 
 add-j : tie.Need-overflow-add-j invariant-loop decreases-loop

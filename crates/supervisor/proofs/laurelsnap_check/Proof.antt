@@ -1,7 +1,7 @@
 -- The answer is the definition's, and its report is of that.
 use borrow.Author.Rules.{rules}
 use mathlib.Core.Path.{ap, ◌∙◌}
-use Rattle.reports.specs.Reported.{checkNumbers}
+use Rattle.reports.specs.Reported.{check_numbers}
 use Rattle.supervisor.proofs.laurelsnap_check.Statement.{statement}
 use Rattle.supervisor.proofs.laurelsnap_check.Tie as tie
 
@@ -12,7 +12,7 @@ of-check-requires : tie.Need-of-check-requires
 of-check-requires c κs = search rules
 
 returns : tie.Need-returns
-returns c = c.of-check.ensures ∙ ap checkNumbers c.before.check.ensures.0
+returns c = c.of-check.ensures ∙ ap check_numbers c.before.check.ensures.0
 
 pub laurelsnap-check-spec : {M : Type 1} → statement M
 laurelsnap-check-spec = tie.close (tie.spec check-requires of-check-requires returns)

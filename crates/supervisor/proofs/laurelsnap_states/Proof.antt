@@ -1,6 +1,6 @@
 -- The answer is reported with its number and figures; the lists are those that the engine left.
 use borrow.Author.Rules.{rules}
-use Rattle.supervisor.proofs.Reports.{states-is}
+use Rattle.supervisor.proofs.Reports.{states_is}
 use Rattle.supervisor.proofs.laurelsnap_states.Statement.{statement}
 use Rattle.supervisor.proofs.laurelsnap_states.Tie as tie
 
@@ -29,7 +29,7 @@ same-length-6 : tie.Need-same-length-6
 same-length-6 c = search rules
 
 returns : tie.Need-returns
-returns c = states-is _ _ _ _ _ c.before.before.before.before.before.before.before.before.before.before.before.before.before.list-states.ensures c.of-states.ensures
+returns c = states_is _ _ _ _ _ c.before.before.before.before.before.before.before.before.before.before.before.before.before.list-states.ensures c.of-states.ensures
 
 pub laurelsnap-states-spec : {M : Type 1} → statement M
 laurelsnap-states-spec =

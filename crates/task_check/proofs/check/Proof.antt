@@ -1,6 +1,6 @@
 use borrow.Author.Rules.{rules}
 use native.Mathlib.Omega.{arith}
-use Rattle.task.specs.Check.{checkOf}
+use Rattle.task.specs.Check.{check_of}
 use Rattle.task_check.proofs.Laws.{answers, refuses, accepts}
 use Rattle.task_check.proofs.check.Statement.{statement}
 use Rattle.task_check.proofs.check.Tie as tie
@@ -9,7 +9,7 @@ header-fault-requires : tie.Need-header-fault-requires
 header-fault-requires c κs = search rules
 
 returns : tie.Need-returns
-unfolding checkOf
+unfolding check_of
 returns c = refuses _ _ _ (search answers depth 9 fits 4000) c.if1.true
 
 first-bad-variable-requires : tie.Need-first-bad-variable-requires
@@ -22,14 +22,14 @@ cast-t8 : tie.Need-overflow-cast-t8
 cast-t8 c = search rules
 
 returns-2 : tie.Need-returns-2
-unfolding checkOf
+unfolding check_of
 returns-2 c = refuses _ _ _ (search answers depth 9 fits 4000) (omega arith)
 
 bits-requires : tie.Need-bits-requires
 bits-requires c κs = search rules
 
 returns-3 : tie.Need-returns-3
-unfolding checkOf
+unfolding check_of
 returns-3 c = refuses _ _ _ (search answers depth 9 fits 4000) (omega arith)
 
 first-bad-operator-requires : tie.Need-first-bad-operator-requires
@@ -42,7 +42,7 @@ cast-t9 : tie.Need-overflow-cast-t9
 cast-t9 c = search rules
 
 returns-4 : tie.Need-returns-4
-unfolding checkOf
+unfolding check_of
 returns-4 c = refuses _ _ _ (search answers depth 9 fits 4000) (omega arith)
 
 first-bad-term-requires : tie.Need-first-bad-term-requires
@@ -55,11 +55,11 @@ cast-t10 : tie.Need-overflow-cast-t10
 cast-t10 c = search rules
 
 returns-5 : tie.Need-returns-5
-unfolding checkOf
+unfolding check_of
 returns-5 c = refuses _ _ _ (search answers depth 9 fits 4000) (omega arith)
 
 returns-6 : tie.Need-returns-6
-unfolding checkOf
+unfolding check_of
 returns-6 c = accepts _ (search answers depth 9 fits 4000)
 
 pub check-spec : {M : Type 1} → statement M

@@ -4,8 +4,8 @@ use Rattle.task_header_check.proofs.all_apart.Tie as tie
 use Prim.Native.Nat.{ℕ, ◌*◌}
 use mathlib.Core.Path.{◌≡◌, sym, ◌∙◌}
 use mathlib.Core.Bool.{Bool}
-use Rattle.planning.proofs.Guards.{and-go, and-stop}
-use Rattle.task.specs.Check.{apart, allApart}
+use Rattle.planning.proofs.Guards.{and_go, and_stop}
+use Rattle.task.specs.Check.{apart, all_apart}
 
 -- two sections as the file has them
 both : (r : Bool) (a m b n a' m' b' n' k l : ℕ) → r ≡ apart a (k * m) b (l * n) → a ≡ a' → m ≡ m' → b ≡ b' → n ≡ n' → r ≡ apart a' (k * m') b' (l * n')
@@ -48,7 +48,7 @@ apart-requires-3 : tie.Need-apart-requires-3
 apart-requires-3 c κs = search rules
 
 returns : tie.Need-returns
-unfolding allApart
+unfolding all_apart
 returns c =
     let v = c.before.before.before.before.before.before.before.before.before.before.variables-at.ensures.is in
     let vn = c.before.before.before.before.before.before.before.before.before.variables.ensures.is in
@@ -56,11 +56,11 @@ returns c =
     let on = c.before.before.before.before.before.before.before.operators.ensures.is in
     let t = c.before.before.before.before.before.before.terms-at.ensures.is in
     let tn = c.before.before.before.before.before.terms.ensures.is in
-    and-go _ _ _ (sym (both _ _ _ _ _ _ _ _ _ 2 36 c.before.before.before.before.apart.ensures v vn o on) ∙ c.before.before.before.if1.true)
-    (and-go _ _ _ (sym (both _ _ _ _ _ _ _ _ _ 2 12 c.before.before.apart2.ensures v vn t tn) ∙ c.before.if2.true) (both _ _ _ _ _ _ _ _ _ 36 12 c.apart3.ensures o on t tn))
+    and_go _ _ _ (sym (both _ _ _ _ _ _ _ _ _ 2 36 c.before.before.before.before.apart.ensures v vn o on) ∙ c.before.before.before.if1.true)
+    (and_go _ _ _ (sym (both _ _ _ _ _ _ _ _ _ 2 12 c.before.before.apart2.ensures v vn t tn) ∙ c.before.if2.true) (both _ _ _ _ _ _ _ _ _ 36 12 c.apart3.ensures o on t tn))
 
 returns-2 : tie.Need-returns-2
-unfolding allApart
+unfolding all_apart
 returns-2 c =
     let v = c.before.before.before.before.before.before.before.before.before.variables-at.ensures.is in
     let vn = c.before.before.before.before.before.before.before.before.variables.ensures.is in
@@ -68,16 +68,16 @@ returns-2 c =
     let on = c.before.before.before.before.before.before.operators.ensures.is in
     let t = c.before.before.before.before.before.terms-at.ensures.is in
     let tn = c.before.before.before.before.terms.ensures.is in
-    and-go _ _ _ (sym (both _ _ _ _ _ _ _ _ _ 2 36 c.before.before.before.apart.ensures v vn o on) ∙ c.before.before.if1.true) (and-stop _ _ _ (sym (both _ _ _ _ _ _ _ _ _ 2 12 c.before.apart2.ensures v vn t tn) ∙ c.if2.false) c.if2.false)
+    and_go _ _ _ (sym (both _ _ _ _ _ _ _ _ _ 2 36 c.before.before.before.apart.ensures v vn o on) ∙ c.before.before.if1.true) (and_stop _ _ _ (sym (both _ _ _ _ _ _ _ _ _ 2 12 c.before.apart2.ensures v vn t tn) ∙ c.if2.false) c.if2.false)
 
 returns-3 : tie.Need-returns-3
-unfolding allApart
+unfolding all_apart
 returns-3 c =
     let v = c.before.before.before.before.before.before.before.variables-at.ensures.is in
     let vn = c.before.before.before.before.before.before.variables.ensures.is in
     let o = c.before.before.before.before.before.operators-at.ensures.is in
     let on = c.before.before.before.before.operators.ensures.is in
-    and-stop _ _ _ (sym (both _ _ _ _ _ _ _ _ _ 2 36 c.before.apart.ensures v vn o on) ∙ c.if1.false) c.if1.false
+    and_stop _ _ _ (sym (both _ _ _ _ _ _ _ _ _ 2 36 c.before.apart.ensures v vn o on) ∙ c.if1.false) c.if1.false
 
 pub all-apart-spec : {M : Type 1} → statement M
 all-apart-spec =

@@ -6,11 +6,11 @@ use mathlib.Core.Path.{◌≡◌, sym, ◌∙◌}
 use mathlib.Core.Bool.{Bool}
 use mathlib.Core.List.{List}
 use lib.ListN.{length}
-use Rattle.planning.proofs.Guards.{and-go, and-stop}
-use Rattle.task.specs.Check.{sectionInside, allInside}
+use Rattle.planning.proofs.Guards.{and_go, and_stop}
+use Rattle.task.specs.Check.{section_inside, all_inside}
 
 -- the section as the file has it
-section : (f : List ℕ) (r : Bool) (at n at' n' k : ℕ) → r ≡ sectionInside (length f) at (k * n) → at ≡ at' → n ≡ n' → r ≡ sectionInside (length f) at' (k * n')
+section : (f : List ℕ) (r : Bool) (at n at' n' k : ℕ) → r ≡ section_inside (length f) at (k * n) → at ≡ at' → n ≡ n' → r ≡ section_inside (length f) at' (k * n')
 section f r at n at' n' k q e d = rw (← e, ← d) q
 
 variables-at-requires : tie.Need-variables-at-requires
@@ -50,25 +50,25 @@ section-inside-requires-3 : tie.Need-section-inside-requires-3
 section-inside-requires-3 c κs = search rules
 
 returns : tie.Need-returns
-unfolding allInside
+unfolding all_inside
 returns c =
-    let s = section c.before.before.before.before.before.before.before.before.before.before.before.before.args.file.now _ _ _ _ _ 2 c.before.before.before.before.before.before.before.before.section-inside.ensures c.before.before.before.before.before.before.before.before.before.before.variables-at.ensures.is c.before.before.before.before.before.before.before.before.before.variables.ensures.is in
+    let s = section c.before.before.before.before.before.before.before.before.before.before.before.before.args.file.now _ _ _ _ _ 2 c.before.before.before.before.before.before.before.before.section_inside_lem.ensures c.before.before.before.before.before.before.before.before.before.before.variables-at.ensures.is c.before.before.before.before.before.before.before.before.before.variables.ensures.is in
     let o = section c.before.before.before.before.before.before.before.before.before.before.before.before.args.file.now _ _ _ _ _ 36 c.before.before.before.before.section-inside2.ensures c.before.before.before.before.before.before.operators-at.ensures.is c.before.before.before.before.before.operators.ensures.is in
     let t = section c.before.before.before.before.before.before.before.before.before.before.before.before.args.file.now _ _ _ _ _ 12 c.section-inside3.ensures c.before.before.terms-at.ensures.is c.before.terms.ensures.is in
-    and-go _ _ _ (sym s ∙ c.before.before.before.before.before.before.before.if1.true) (and-go _ _ _ (sym o ∙ c.before.before.before.if2.true) t)
+    and_go _ _ _ (sym s ∙ c.before.before.before.before.before.before.before.if1.true) (and_go _ _ _ (sym o ∙ c.before.before.before.if2.true) t)
 
 returns-2 : tie.Need-returns-2
-unfolding allInside
+unfolding all_inside
 returns-2 c =
-    let s = section c.before.before.before.before.before.before.before.before.before.args.file.now _ _ _ _ _ 2 c.before.before.before.before.before.section-inside.ensures c.before.before.before.before.before.before.before.variables-at.ensures.is c.before.before.before.before.before.before.variables.ensures.is in
+    let s = section c.before.before.before.before.before.before.before.before.before.args.file.now _ _ _ _ _ 2 c.before.before.before.before.before.section_inside_lem.ensures c.before.before.before.before.before.before.before.variables-at.ensures.is c.before.before.before.before.before.before.variables.ensures.is in
     let o = section c.before.before.before.before.before.before.before.before.before.args.file.now _ _ _ _ _ 36 c.before.section-inside2.ensures c.before.before.before.operators-at.ensures.is c.before.before.operators.ensures.is in
-    and-go _ _ _ (sym s ∙ c.before.before.before.before.if1.true) (and-stop _ _ _ (sym o ∙ c.if2.false) c.if2.false)
+    and_go _ _ _ (sym s ∙ c.before.before.before.before.if1.true) (and_stop _ _ _ (sym o ∙ c.if2.false) c.if2.false)
 
 returns-3 : tie.Need-returns-3
-unfolding allInside
+unfolding all_inside
 returns-3 c =
-    let s = section c.before.before.before.before.before.args.file.now _ _ _ _ _ 2 c.before.section-inside.ensures c.before.before.before.variables-at.ensures.is c.before.before.variables.ensures.is in
-    and-stop _ _ _ (sym s ∙ c.if1.false) c.if1.false
+    let s = section c.before.before.before.before.before.args.file.now _ _ _ _ _ 2 c.before.section_inside_lem.ensures c.before.before.before.variables-at.ensures.is c.before.before.variables.ensures.is in
+    and_stop _ _ _ (sym s ∙ c.if1.false) c.if1.false
 
 pub all-inside-spec : {M : Type 1} → statement M
 all-inside-spec =

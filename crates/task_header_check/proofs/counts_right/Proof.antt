@@ -1,5 +1,5 @@
 use borrow.Author.Rules.{rules}
-use Rattle.task.specs.Check.{countsRight}
+use Rattle.task.specs.Check.{counts_right}
 use Rattle.planning.proofs.Guards.{tests}
 use Rattle.task_header_check.proofs.counts_right.Statement.{statement}
 use Rattle.task_header_check.proofs.counts_right.Tie as tie
@@ -8,32 +8,32 @@ variables-requires : tie.Need-variables-requires
 variables-requires c κs = search rules
 
 returns : tie.Need-returns
-unfolding countsRight
+unfolding counts_right
 returns c = search tests
 
 returns-2 : tie.Need-returns-2
-unfolding countsRight
+unfolding counts_right
 returns-2 c = search tests
 
 operators-requires : tie.Need-operators-requires
 operators-requires c κs = search rules
 
 returns-3 : tie.Need-returns-3
-unfolding countsRight
+unfolding counts_right
 returns-3 c = search tests
 
 terms-requires : tie.Need-terms-requires
 terms-requires c κs = search rules
 
 returns-4 : tie.Need-returns-4
-unfolding countsRight
+unfolding counts_right
 returns-4 c = search tests
 
 bound-requires : tie.Need-bound-requires
 bound-requires c κs = search rules
 
 returns-5 : tie.Need-returns-5
-unfolding countsRight
+unfolding counts_right
 returns-5 c = search tests
 
 pub counts-right-spec : {M : Type 1} → statement M

@@ -1,5 +1,5 @@
 use borrow.Author.Rules.{rules}
-use Rattle.task.specs.Check.{lengthRight}
+use Rattle.task.specs.Check.{length_right}
 use Rattle.planning.proofs.Guards.{tests}
 use Rattle.task_header_check.proofs.length_right.Statement.{statement}
 use Rattle.task_header_check.proofs.length_right.Tie as tie
@@ -8,7 +8,7 @@ le32-requires : tie.Need-le32-requires
 le32-requires c κs = search rules
 
 returns : tie.Need-returns
-unfolding lengthRight
+unfolding length_right
 returns c = search tests
 
 pub length-right-spec : {M : Type 1} → statement M

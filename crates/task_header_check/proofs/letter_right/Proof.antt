@@ -1,5 +1,5 @@
 use borrow.Author.Rules.{rules}
-use Rattle.task.specs.Check.{letterRight}
+use Rattle.task.specs.Check.{letter_right}
 use Rattle.planning.proofs.Guards.{tests}
 use Rattle.task_header_check.proofs.letter_right.Statement.{statement}
 use Rattle.task_header_check.proofs.letter_right.Tie as tie
@@ -14,7 +14,7 @@ byte-requires-2 : tie.Need-byte-requires-2
 byte-requires-2 c κs = search rules
 
 returns : tie.Need-returns
-unfolding letterRight
+unfolding letter_right
 returns c = search tests
 
 pub letter-right-spec : {M : Type 1} → statement M

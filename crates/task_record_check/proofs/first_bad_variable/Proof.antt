@@ -3,14 +3,14 @@ use Prim.Native.Nat.{◌-◌}
 use native.Mathlib.Omega.{arith}
 use borrow.Author.Rules.{rules}
 use Rattle.task.specs.Format.{variables}
-use Rattle.task.specs.Check.{variableRight}
+use Rattle.task.specs.Check.{variable_right}
 use Rattle.planning.proofs.Guards.{wrong, right}
-use Rattle.planning.proofs.Scan.{BadFrom, bad-none, bad_more, bad-stop, bad-done}
+use Rattle.planning.proofs.Scan.{BadFrom, bad_none, bad_more, bad_stop, bad_done}
 use Rattle.task_record_check.proofs.first_bad_variable.Statement.{statement}
 use Rattle.task_record_check.proofs.first_bad_variable.Tie as tie
 
 abbrev invariant-loop : tie.invariant-loop
-invariant-loop file n v₀ v = BadFrom (variableRight file) (variables file) v
+invariant-loop file n v₀ v = BadFrom (variable_right file) (variables file) v
 
 abbrev decreases-loop : tie.decreases-loop
 decreases-loop file n v₀ v = n - v
@@ -19,7 +19,7 @@ variables-requires : tie.Need-variables-requires invariant-loop decreases-loop
 variables-requires c κs = search rules
 
 loop-holds : tie.Need-loop-init invariant-loop decreases-loop
-loop-holds c = bad-none _ _
+loop-holds c = bad_none _ _
 
 variable-right-requires : tie.Need-variable-right-requires invariant-loop decreases-loop
 variable-right-requires c κs = omega arith
@@ -27,7 +27,7 @@ variable-right-requires c κs = omega arith
 returns : tie.Need-returns invariant-loop decreases-loop
 returns c =
     record {
-      is = bad-stop _ _ _ (omega arith) c.before.before.before.loop.invariant (wrong _ _ c.before.variable-right.ensures c.if1.true);
+      is = bad_stop _ _ _ (omega arith) c.before.before.before.loop.invariant (wrong _ _ c.before.variable-right.ensures c.if1.true);
       small = omega arith;
     }
 
@@ -42,7 +42,7 @@ loop-again c =
     bad_more _ _ _ (omega arith) c.before.before.before.loop.invariant (right _ _ c.before.variable-right.ensures c.if1.false)
 
 returns-2 : tie.Need-returns-2 invariant-loop decreases-loop
-returns-2 c = record { is = bad-done _ _ _ (omega arith) c.before.loop.invariant; small = omega arith }
+returns-2 c = record { is = bad_done _ _ _ (omega arith) c.before.loop.invariant; small = omega arith }
 
 pub first-bad-variable-spec : {M : Type 1} → statement M
 first-bad-variable-spec =

@@ -1,5 +1,5 @@
 use borrow.Author.Rules.{rules}
-use Rattle.task.specs.Check.{operatorRecordRight}
+use Rattle.task.specs.Check.{operator_record_right}
 use Rattle.planning.proofs.Guards.{tests}
 use Rattle.task_record_check.proofs.operator_record_right.Statement.{statement}
 use Rattle.task_record_check.proofs.operator_record_right.Tie as tie
@@ -17,19 +17,19 @@ effects-right-requires : tie.Need-effects-right-requires
 effects-right-requires c κs = search rules
 
 returns : tie.Need-returns
-unfolding operatorRecordRight
+unfolding operator_record_right
 returns c = search tests
 
 returns-2 : tie.Need-returns-2
-unfolding operatorRecordRight
+unfolding operator_record_right
 returns-2 c = search tests
 
 returns-3 : tie.Need-returns-3
-unfolding operatorRecordRight
+unfolding operator_record_right
 returns-3 c = search tests
 
 returns-4 : tie.Need-returns-4
-unfolding operatorRecordRight
+unfolding operator_record_right
 returns-4 c = search tests
 
 pub operator-record-right-spec : {M : Type 1} → statement M

@@ -1,6 +1,6 @@
 use borrow.Author.Rules.{rules}
 use mathlib.Core.Path.{ap, ◌∙◌}
-use Rattle.task.specs.Check.{termRecordRight, termRight}
+use Rattle.task.specs.Check.{term_record_right, term_right}
 use Rattle.task_record_check.proofs.term_right.Statement.{statement}
 use Rattle.task_record_check.proofs.term_right.Tie as tie
 
@@ -11,8 +11,8 @@ term-record-right-requires : tie.Need-term-record-right-requires
 term-record-right-requires c κs = search rules
 
 returns : tie.Need-returns
-unfolding termRight
-returns c = c.term-record-right.ensures ∙ ap (termRecordRight _) c.before.term-record.ensures
+unfolding term_right
+returns c = c.term-record-right.ensures ∙ ap (term_record_right _) c.before.term-record.ensures
 
 pub term-right-spec : {M : Type 1} → statement M
 term-right-spec = tie.close (tie.spec term-record-requires term-record-right-requires returns)

@@ -6,8 +6,8 @@ use Prim.Native.Nat.{◌-◌, ◌<◌}
 use lib.ListN.{length}
 use Rattle.diagrams.specs.Store.{Table, table}
 use Rattle.task.specs.Format.{terms}
-use Rattle.utility_build.proofs.Terms.{term-small}
-use Rattle.utility_build.proofs.Stages.{TermsAdded, added_none, added-end, added_full, added_next}
+use Rattle.utility_build.proofs.Terms.{term_small}
+use Rattle.utility_build.proofs.Stages.{TermsAdded, added_none, added_end, added_full, added_next}
 use Rattle.utility_build.proofs.add_terms.Statement.{statement}
 use Rattle.utility_build.proofs.add_terms.Tie as tie
 
@@ -74,7 +74,7 @@ returns c =
     added_full _ _ _ _ _ _ _ i.before.loop.inv.0 (more i) (added-tab k) k.add_term.last.1.1.1.1.1.1.0 k.add_term.result k.add_term.ensures c.if1.true
 
 add-k : tie.Need-overflow-add-k invariant-loop decreases-loop
-add-k c = let i = inside (room c) in omega (arith, term-small i.before.before.before.before.before.before.before.before.before.before.args.file.now i.before.loop.inv.0.ready.right i.before.loop.k (more i))
+add-k c = let i = inside (room c) in omega (arith, term_small i.before.before.before.before.before.before.before.before.before.before.args.file.now i.before.loop.inv.0.ready.right i.before.loop.k (more i))
 
 loop-less : tie.Need-loop-smaller invariant-loop decreases-loop
 loop-less c = omega (arith, (inside (room c)).loop-test.taken)
@@ -110,7 +110,7 @@ same-length-12 c = c.before.before.loop.invariant.6
 returns-2 : tie.Need-returns-2 invariant-loop decreases-loop
 returns-2 c =
     let i = c.before.before in
-    rw c.done.ensures (added-end _ _ _ _ _ _ _ i.loop.invariant.0 (omega (arith, c.before.loop-test.false, i.before.terms.ensures.is)))
+    rw c.done.ensures (added_end _ _ _ _ _ _ _ i.loop.invariant.0 (omega (arith, c.before.loop-test.false, i.before.terms.ensures.is)))
 
 pub add-terms-spec : {M : Type 1} → statement M
 add-terms-spec =

@@ -5,7 +5,7 @@ use mathlib.Core.Path.{refl, ◌∙◌}
 use Rattle.diagrams.specs.Tree.{named, Canon}
 use Rattle.diagrams.specs.Store.{Table, table, blank}
 use Rattle.diagrams.proofs.Unders.{under_none}
-use Rattle.utility_build.proofs.Stages.{empty-store, zero-full, zero-ready, whole}
+use Rattle.utility_build.proofs.Stages.{empty_store, zero_full, zero_ready, whole}
 use Rattle.utility_build.proofs.build.Statement.{statement}
 use Rattle.utility_build.proofs.build.Tie as tie
 
@@ -37,7 +37,7 @@ mk-requires : tie.Need-mk-requires
 unfolding named Canon
 mk-requires c κs =
     let a = c.before.before.before.before.before.before.before.before.before.before.before.before.before.before.before.before in
-    (empty-store a.args.file.now a.requires.0 a.args.bit.now a.args.low.now a.args.high.now a.args.heads.now a.args.chain.now a.requires.1.0 a.requires.1.1 a.requires.1.2, ((omega arith, omega arith), (tt, tt)))
+    (empty_store a.args.file.now a.requires.0 a.args.bit.now a.args.low.now a.args.high.now a.args.heads.now a.args.chain.now a.requires.1.0 a.requires.1.1 a.requires.1.2, ((omega arith, omega arith), (tt, tt)))
 
 same_length : tie.Need-same-length
 same_length c = (zero-1 c).mk.auto.0
@@ -62,7 +62,7 @@ returns c =
     let k = zero-1 c in
     let a = start k in
     let s = tab k in
-    zero-full a.args.file.now a.pre.0 a.args.bit.now a.args.low.now a.args.high.now a.args.heads.now a.args.chain.now a.pre.1.0 a.pre.1.1 a.pre.1.2 s k.mk.result k.mk.ensures c.if1.true s
+    zero_full a.args.file.now a.pre.0 a.args.bit.now a.args.low.now a.args.high.now a.args.heads.now a.args.chain.now a.pre.1.0 a.pre.1.1 a.pre.1.2 s k.mk.result k.mk.ensures c.if1.true s
 
 add-terms-requires : tie.Need-add-terms-requires
 add-terms-requires c κs =
@@ -70,7 +70,7 @@ add-terms-requires c κs =
     let a = start k in
     let m = begun k in
     let s = tab k in
-    zero-ready a.args.file.now a.pre.0 a.args.bit.now a.args.low.now a.args.high.now a.args.heads.now a.args.chain.now a.pre.1.0 a.pre.1.1 a.pre.1.2 s k.mk.result k.mk.ensures c.before.before.before.before.before.before.if1.false m.begin.last.0 (m.begin.ensures.for blank (under_none 64 blank refl))
+    zero_ready a.args.file.now a.pre.0 a.args.bit.now a.args.low.now a.args.high.now a.args.heads.now a.args.chain.now a.pre.1.0 a.pre.1.1 a.pre.1.2 s k.mk.result k.mk.ensures c.before.before.before.before.before.before.if1.false m.begin.last.0 (m.begin.ensures.for blank (under_none 64 blank refl))
 
 same-length-7 : tie.Need-same-length-7
 same-length-7 c = (added-2 c).add-terms.auto.1.0 ∙ (zero-2 c).mk.auto.0

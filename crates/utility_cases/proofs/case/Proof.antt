@@ -1,7 +1,7 @@
 -- `utility_cases::case` meets its contract. Assumes nothing.
 use native.Mathlib.Omega.{arith}
 use mathlib.Core.Path.{refl, sym, ◌∙◌}
-use Rattle.utility_cases.proofs.Parts.{part-long}
+use Rattle.utility_cases.proofs.Parts.{part_long}
 use Rattle.utility_cases.proofs.case.Statement.{statement}
 use Rattle.utility_cases.proofs.case.Tie as tie
 
@@ -36,7 +36,7 @@ array-borrow-prefix-memo : tie.Need-array-borrow-prefix-memo
 array-borrow-prefix-memo c = c.before.before.before.before.before.before.before.before.before.before.before.requires
 
 slice-aggregate-run-9 : tie.Need-slice-aggregate-run-9
-slice-aggregate-run-9 c = part-long _ 8192 _ c.before.before.before.before.before.before.before.before.before.before.before.before.requires refl
+slice-aggregate-run-9 c = part_long _ 8192 _ c.before.before.before.before.before.before.before.before.before.before.before.before.requires refl
 
 run-requires : tie.Need-run-requires
 run-requires c κs = ((sym c.before.before.before.before.before.before.before.before.before.before.accepted.ensures ∙ c.before.before.before.before.before.before.before.before.before.if1.true, c.before.before.before.before.before.before.before.before.before.before.before.before.requires), ((refl, refl, refl), (refl, refl, omega arith)))

@@ -21,7 +21,7 @@ operands k =
     let e = (made k.before).cube.ensures in
     let f = k.if1.false in
     let g = (goes _ _ _ _ _ e).ready f in
-    record { store = g.store; right = g.right; a-below = stays _ _ _ _ _ e p.store f _ p.within; b-below = g.within }
+    record { store = g.store; right = g.right; a_below = stays _ _ _ _ _ e p.store f _ p.within; b_below = g.within }
 
 -- the calls before the returns 2 and 3
 abbrev parted : tie.After-slice-known18 → tie.After-difference

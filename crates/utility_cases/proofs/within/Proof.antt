@@ -3,9 +3,9 @@ use borrow.Author.Rules.{rules}
 use native.Mathlib.Omega.{arith}
 use mathlib.Core.Path.{refl, ◌∙◌}
 use Rattle.diagrams.specs.Store.{table}
-use Rattle.diagrams.proofs.Empty.{store-empty}
+use Rattle.diagrams.proofs.Empty.{store_empty}
 use Rattle.diagrams.proofs.Unders.{under_none}
-use Rattle.utility.proofs.Pairs.{store-bare, memo-bare, memo-full}
+use Rattle.utility.proofs.Pairs.{store_bare, memo_bare, memo_full}
 use Rattle.utility_cases.proofs.within.Statement.{statement}
 use Rattle.utility_cases.proofs.within.Tie as tie
 
@@ -33,7 +33,7 @@ random-set-requires c κs =
     let a = c.before.before.before.before.before.before.before.before.before.before.before.before.before.before.before.before.before.before.before.before in
     let m = c.before.before.before.before.before.before.before.before.before.begin in
     let s = table a.args.bit.now a.args.low.now a.args.high.now a.args.heads.now a.args.chain.now 0 in
-    (record { store = store-empty a.args.bit.now a.args.low.now a.args.high.now a.args.heads.now a.args.chain.now a.requires.1.0 a.requires.1.1 a.requires.1.2; within = omega arith; right = m.ensures.for s (under_none 64 s refl) }, c.size.ensures.0)
+    (record { store = store_empty a.args.bit.now a.args.low.now a.args.high.now a.args.heads.now a.args.chain.now a.requires.1.0 a.requires.1.1 a.requires.1.2; within = omega arith; right = m.ensures.for s (under_none 64 s refl) }, c.size.ensures.0)
 
 same_length : tie.Need-same-length
 same_length c = (set-1 c).random-set.auto.0
@@ -62,7 +62,7 @@ greatest-requires c κs =
     let k = c.before.before.before.before.before.before.before.before.before.before.before.before.before.before.before.before.before.random-set in
     let g = k.ensures.ready c.before.before.before.before.if1.false in
     let s = table k.new.0 k.new.1.0 k.new.1.1.0 k.new.1.1.1.0 k.new.1.1.1.1.0 k.result.count in
-    ((store-bare s g.store, a.0), ((g.within, a.1), memo-bare s k.new.1.1.1.1.1.0 g.right))
+    ((store_bare s g.store, a.0), ((g.within, a.1), memo_bare s k.new.1.1.1.1.1.0 g.right))
 
 cast-show : tie.Need-overflow-cast-show
 cast-show c = search rules
@@ -101,7 +101,7 @@ select-requires c κs =
     let m = c.before.before.before.before.before.before.before.before.before.before.greatest in
     let g = k.ensures.ready c.before.before.before.before.before.before.before.before.before.before.before.before.before.before.before.if1.false in
     let s = table k.new.0 k.new.1.0 k.new.1.1.0 k.new.1.1.1.0 k.new.1.1.1.1.0 k.result.count in
-    ((g.store, a.0), ((g.within, a.1), memo-full s m.new.1.1.1.1.1.1.0 m.ensures.keeps))
+    ((g.store, a.0), ((g.within, a.1), memo_full s m.new.1.1.1.1.1.1.0 m.ensures.keeps))
 
 checksum-requires : tie.Need-checksum-requires
 checksum-requires c κs = tt

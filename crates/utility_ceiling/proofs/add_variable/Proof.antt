@@ -7,8 +7,8 @@ use Rattle.planning.specs.Coding.{width, bits}
 use Rattle.diagrams.specs.Store.{table}
 use Rattle.task.specs.Decode.{sizes}
 use Rattle.utility_ceiling.specs.Permitted.{permitted}
-use Rattle.utility_ceiling.proofs.Making.{Bounding, bounding-behind, bounding-room, bounding-more}
-use Rattle.utility_ceiling.proofs.Files.{few-variables, two-values, variable-begins, variable-ends}
+use Rattle.utility_ceiling.proofs.Making.{Bounding, bounding_behind, bounding_room, bounding_more}
+use Rattle.utility_ceiling.proofs.Files.{few_variables, two_values, variable_begins, variable_ends}
 use Rattle.utility_ceiling.proofs.add_variable.Statement.{statement}
 use Rattle.utility_ceiling.proofs.add_variable.Tie as tie
 
@@ -22,18 +22,18 @@ decreases-loop file bit₀ low₀ high₀ heads₀ chain₀ count v next d at re
 
 -- there is such a variable, so its number is small
 small : (a : tie.Start invariant-loop decreases-loop) → a.args.v < 65536
-small a = omega (arith, a.requires.0.1, few-variables a.args.file.now a.requires.0.0)
+small a = omega (arith, a.requires.0.1, few_variables a.args.file.now a.requires.0.0)
 
 -- it has two values or more
 two : (o : tie.After-bit-offset invariant-loop decreases-loop) → 2 ≤ o.before.size.result
 two o =
     let z = o.before.size in
     let a = o.before.before.before.before.before.before.before.before in
-    two-values a.args.file.now a.requires.0.0 a.args.v z.result o.bit-offset.result a.requires.0.1 z.ensures.is o.bit-offset.ensures.is
+    two_values a.args.file.now a.requires.0.0 a.args.v z.result o.bit-offset.result a.requires.0.1 z.ensures.is o.bit-offset.ensures.is
 
 -- its bits are among 48
 room : (i : tie.In-loop invariant-loop decreases-loop) → i.before.before.before.bit-offset.result + i.before.loop.left ≤ 48
-room i = bounding-room _ _ _ _ _ _ _ _ _ _ i.before.loop.invariant.0
+room i = bounding_room _ _ _ _ _ _ _ _ _ _ i.before.loop.invariant.0
 
 size-requires : tie.Need-size-requires invariant-loop decreases-loop
 size-requires c κs = small c.before.before.before.before.before.before
@@ -52,7 +52,7 @@ loop-holds c =
     let a = c.before.before.before.before.before.before.before.before.before in
     let o = c.before in
     let z = o.before.size in
-    (variable-begins a.args.file.now a.requires.0.0 a.args.v z.result o.bit-offset.result a.requires.0.1 z.ensures.is o.bit-offset.ensures.is _ a.args.next c.width.result c.width.ensures.is a.requires.1, refl, refl, refl, refl, refl)
+    (variable_begins a.args.file.now a.requires.0.0 a.args.v z.result o.bit-offset.result a.requires.0.1 z.ensures.is o.bit-offset.ensures.is _ a.args.next c.width.result c.width.ensures.is a.requires.1, refl, refl, refl, refl, refl)
 
 sub-left : tie.Need-overflow-sub-left invariant-loop decreases-loop
 sub-left c = omega (arith, c.loop-test.true)
@@ -64,7 +64,7 @@ cast-bound-bit : tie.Need-overflow-cast-bound-bit invariant-loop decreases-loop
 cast-bound-bit c = omega (arith, room c.before.before.before.before.before)
 
 bound-bit-requires : tie.Need-bound-bit-requires invariant-loop decreases-loop
-bound-bit-requires c κs = let i = c.before.before.before.before.before in bounding-behind _ _ _ _ _ _ _ _ _ _ i.before.loop.invariant.0 i.loop-test.true
+bound-bit-requires c κs = let i = c.before.before.before.before.before in bounding_behind _ _ _ _ _ _ _ _ _ _ i.before.loop.invariant.0 i.loop-test.true
 
 loop-less : tie.Need-loop-smaller invariant-loop decreases-loop
 loop-less c = omega (arith, c.before.before.before.before.before.before.before.before.before.before.before.before.before.before.before.before.loop-test.true)
@@ -74,7 +74,7 @@ loop-again c =
     let k = c.before.before.before.before.before.before.before.before.before.before.bound-bit in
     let i = c.before.before.before.before.before.before.before.before.before.before.before.before.before.before.before.before in
     let v = i.before.loop.invariant in
-    (bounding-more _ _ _ _ _ _ _ _ _ _ v.0 i.loop-test.true _ k.result.name k.ensures, k.auto.0 ∙ v.1, k.auto.1.0 ∙ v.2, k.auto.1.1.0 ∙ v.3, k.auto.1.1.1.0 ∙ v.4, k.auto.1.1.1.1.0 ∙ v.5)
+    (bounding_more _ _ _ _ _ _ _ _ _ _ v.0 i.loop-test.true _ k.result.name k.ensures, k.auto.0 ∙ v.1, k.auto.1.0 ∙ v.2, k.auto.1.1.0 ∙ v.3, k.auto.1.1.1.0 ∙ v.4, k.auto.1.1.1.1.0 ∙ v.5)
 
 done-requires : tie.Need-done-requires invariant-loop decreases-loop
 done-requires c κs = tt
@@ -101,7 +101,7 @@ returns c =
     let z = o.before.size in
     let l = c.before.before.loop in
     rw c.done.ensures
-    (variable-ends a.args.file.now a.requires.0.0 a.args.v z.result o.bit-offset.result a.requires.0.1 z.ensures.is o.bit-offset.ensures.is _ a.args.next l.rest l.left l.tight l.invariant.0 (omega (arith, c.before.loop-test.false)))
+    (variable_ends a.args.file.now a.requires.0.0 a.args.v z.result o.bit-offset.result a.requires.0.1 z.ensures.is o.bit-offset.ensures.is _ a.args.next l.rest l.left l.tight l.invariant.0 (omega (arith, c.before.loop-test.false)))
 
 pub add-variable-spec : {M : Type 1} → statement M
 add-variable-spec =

@@ -2,13 +2,13 @@
 use borrow.Author.Rules.{rules}
 use native.Mathlib.Omega.{arith}
 use Rattle.diagrams.specs.Tree.{named, Canon}
-use Rattle.utility_ceiling.proofs.Making.{adds_one, adds-zero}
+use Rattle.utility_ceiling.proofs.Making.{adds_one, adds_zero}
 use Rattle.utility_ceiling.proofs.bound_bit.Statement.{statement}
 use Rattle.utility_ceiling.proofs.bound_bit.Tie as tie
 
 mk-requires : tie.Need-mk-requires
 mk-requires c κs = let p = c.before.before.before.before.before.before.before.before.before.before.before.requires in
-    (p.filled.store, ((p.next-within, p.tight-within), (p.next-from, p.tight-from)))
+    (p.filled.store, ((p.next_within, p.tight_within), (p.next_from, p.tight_from)))
 
 same_length : tie.Need-same-length
 same_length c = search rules
@@ -34,7 +34,7 @@ returns c =
 mk-requires-2 : tie.Need-mk-requires-2
 unfolding named Canon
 mk-requires-2 c κs = let p = c.before.before.before.before.before.before.before.before.before.before.before.requires in
-    (p.filled.store, ((p.tight-within, omega arith), (p.tight-from, tt)))
+    (p.filled.store, ((p.tight_within, omega arith), (p.tight_from, tt)))
 
 same-length-6 : tie.Need-same-length-6
 same-length-6 c = search rules
@@ -55,7 +55,7 @@ returns-2 : tie.Need-returns-2
 returns-2 c =
     let m = c.before.before.before.before.before.before.before.before.before.before.mk2 in
     let a = c.before.before.before.before.before.before.before.before.before.before.before.before.before.before.before.before.before.before.before.before.before.before in
-    adds-zero _ _ m.result a.args.b a.args.next a.args.tight a.args.one c.before.before.before.before.before.before.before.before.before.before.before.before.before.before.before.before.if1.false a.requires m.ensures m.auto.0
+    adds_zero _ _ m.result a.args.b a.args.next a.args.tight a.args.one c.before.before.before.before.before.before.before.before.before.before.before.before.before.before.before.before.if1.false a.requires m.ensures m.auto.0
 
 pub bound-bit-spec : {M : Type 1} → statement M
 bound-bit-spec =

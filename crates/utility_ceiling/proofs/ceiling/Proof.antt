@@ -5,8 +5,8 @@ use native.Mathlib.Omega.{arith}
 use lib.Seq.{length-take-le}
 use Rattle.planning.specs.Ceiling.{ceiling}
 use Rattle.task.specs.Decode.{task_of}
-use Rattle.utility.proofs.Pairs.{store-bare}
-use Rattle.utility_ceiling.proofs.Files.{ceiling-found}
+use Rattle.utility.proofs.Pairs.{store_bare}
+use Rattle.utility_ceiling.proofs.Files.{ceiling_found}
 use borrow.Author.Rules.{rules}
 use Rattle.utility_ceiling.proofs.ceiling.Statement.{statement}
 use Rattle.utility_ceiling.proofs.ceiling.Tie as tie
@@ -16,7 +16,7 @@ found : (g : tie.After-greatest-within) → g.greatest-within.result ≡ suc (ce
 found g =
     let a = g.before.before.before.before.before.before.before.before.before.before.before.before.before.before.before.before.before.before.before.before.before.before in
     let b = g.before.before.before.before.before.before.before.before.before.before.before.permitted-states in
-    ceiling-found a.args.file.now a.requires.0 _ _ b.result.name a.args.root g.greatest-within.result b.ensures a.requires.1 g.greatest-within.ensures
+    ceiling_found a.args.file.now a.requires.0 _ _ b.result.name a.args.root g.greatest-within.result b.ensures a.requires.1 g.greatest-within.ensures
 
 slice-aggregate-permitted-states : tie.Need-slice-aggregate-permitted-states
 slice-aggregate-permitted-states c = search rules
@@ -58,7 +58,7 @@ greatest-within-requires : tie.Need-greatest-within-requires
 greatest-within-requires c κs =
     let u = c.before.before.before.before.before.before.before.before.before.before.before.before.before.before.before.before.before.before.before.before.before.requires.1 in
     let b = c.before.before.before.before.before.before.before.before.before.before.permitted-states.ensures in
-    ((store-bare _ b.filled.store, u.values), ((b.stands.within, u.below), b.filled.states))
+    ((store_bare _ b.filled.store, u.values), ((b.stands.within, u.below), b.filled.states))
 
 sub-result : tie.Need-overflow-sub-result
 sub-result c = omega (arith, found c.before.before)

@@ -1,5 +1,5 @@
 -- A begun memo is right for any sets of states. Assumes nothing.
-use Rattle.diagrams.proofs.Rows.{widened-memo}
+use Rattle.diagrams.proofs.Rows.{widened_memo}
 use borrow.Author.Rules.{rules}
 use Rattle.utility_ceiling.proofs.greatest_within.Statement.{statement}
 use Rattle.utility_ceiling.proofs.greatest_within.Tie as tie
@@ -15,7 +15,7 @@ greatest-requires c κs =
     let p = c.before.before.before.before.before.before.before.before.before.before.before.before.before.before.before.before.requires in
     let b = c.before.before.before.before.before.before.before.begin in
     let w = c.before.before.before.widen in
-    ((p.0.0, p.0.1), ((p.1.0.0, p.1.0.1), widened-memo _ _ w.ensures _ (b.ensures.for _ p.1.1)))
+    ((p.0.0, p.0.1), ((p.1.0.0, p.1.0.1), widened_memo _ _ w.ensures _ (b.ensures.for _ p.1.1)))
 
 same_length : tie.Need-same-length
 same_length c = search rules

@@ -7,7 +7,7 @@ use Rattle.diagrams.specs.Store.{table}
 use Rattle.task.specs.Format.{variables}
 use Rattle.task.specs.Decode.{sizes}
 use Rattle.utility_ceiling.specs.Sets.{From}
-use Rattle.utility_ceiling.proofs.Making.{from-before, from_first}
+use Rattle.utility_ceiling.proofs.Making.{from_before, from_first}
 use Rattle.utility_ceiling.proofs.Files.{none_from}
 use Rattle.utility_ceiling.proofs.permitted_states.Statement.{statement}
 use Rattle.utility_ceiling.proofs.permitted_states.Tie as tie
@@ -35,7 +35,7 @@ add-variable-requires : tie.Need-add-variable-requires invariant-loop decreases-
 add-variable-requires c κs =
     let i = c.before.before.before.before.before in
     let l = i.before.loop in
-    ((i.before.before.before.before.before.before.before.before.before.requires.0, omega (arith, i.loop-test.true, l.invariant.1)), from-before _ _ _ l.v i.loop-test.true l.invariant.0)
+    ((i.before.before.before.before.before.before.before.before.before.requires.0, omega (arith, i.loop-test.true, l.invariant.1)), from_before _ _ _ l.v i.loop-test.true l.invariant.0)
 
 loop-less : tie.Need-loop-smaller invariant-loop decreases-loop
 loop-less c = omega (arith, c.before.before.before.before.before.before.before.before.before.before.before.before.before.before.before.before.loop-test.true)

@@ -1,7 +1,7 @@
 -- `utility_greatest::greatest` meets its contract. Assumes nothing.
 use borrow.Author.Rules.{rules}
 use Rattle.utility.specs.Reading.{nodes}
-use Rattle.utility_greatest.proofs.Growing.{most-begins}
+use Rattle.utility_greatest.proofs.Growing.{most_begins}
 use Rattle.utility_greatest.proofs.greatest.Statement.{statement}
 use Rattle.utility_greatest.proofs.greatest.Tie as tie
 
@@ -14,7 +14,7 @@ most-requires c κs =
     let k = c.before.before.before in
     let sets = nodes a.args.bit.now a.args.low.now a.args.high.now a.args.count in
     let values = nodes a.args.ubit.now a.args.ulow.now a.args.uhigh.now a.args.ucount in
-    (a.requires.0, (a.requires.1.0, most-begins sets values a.args.memo.now k.stamp.new.0 k.stamp.result a.requires.1.1 k.stamp.ensures))
+    (a.requires.0, (a.requires.1.0, most_begins sets values a.args.memo.now k.stamp.new.0 k.stamp.result a.requires.1.1 k.stamp.ensures))
 
 same_length : tie.Need-same-length
 same_length c = search rules

@@ -2,7 +2,7 @@
 use borrow.Author.Rules.{rules}
 use native.Mathlib.Omega.{arith}
 use Rattle.utility.proofs.Pairs.{no_end}
-use Rattle.utility_greatest.proofs.Looking.{looked-none, looked-end, looked-recalled, looked-parted}
+use Rattle.utility_greatest.proofs.Looking.{looked_none, looked_end, looked_recalled, looked_parted}
 use Rattle.utility_greatest.proofs.look.Statement.{statement}
 use Rattle.utility_greatest.proofs.look.Tie as tie
 
@@ -10,7 +10,7 @@ shown-requires : tie.Need-shown-requires
 shown-requires c κs = search rules
 
 returns : tie.Need-returns
-returns c = rw c.shown.ensures (record { at = λ count ucount n st sx right f. looked-none _ _ st sx _ _ right n _ _ f c.before.if1.true })
+returns c = rw c.shown.ensures (record { at = λ count ucount n st sx right f. looked_none _ _ st sx _ _ right n _ _ f c.before.if1.true })
 
 end-requires : tie.Need-end-requires
 end-requires c κs = c.before.before.before.before.before.before.before.before.requires.0.1
@@ -25,7 +25,7 @@ returns-2 : tie.Need-returns-2
 returns-2 c =
     let e = c.before.before.before.end in
     rw c.shown2.ensures
-    (record { at = λ count ucount n st sx right f. looked-end _ _ st sx _ _ right n _ _ f c.before.before.before.before.if1.false e.result e.ensures.0 c.before.before.if2.true })
+    (record { at = λ count ucount n st sx right f. looked_end _ _ st sx _ _ right n _ _ f c.before.before.before.before.if1.false e.result e.ensures.0 c.before.before.if2.true })
 
 recall-requires : tie.Need-recall-requires
 recall-requires c κs = c.before.before.before.before.before.before.before.before.before.before.requires.0.2
@@ -37,7 +37,7 @@ returns-3 : tie.Need-returns-3
 returns-3 c =
     let m = c.before.before.recall in
     rw c.shown3.ensures
-    (record { at = λ count ucount n st sx right f. looked-recalled _ _ st sx _ _ right n _ _ f m.result m.ensures c.before.if3.true })
+    (record { at = λ count ucount n st sx right f. looked_recalled _ _ st sx _ _ right n _ _ f m.result m.ensures c.before.if3.true })
 
 part-requires : tie.Need-part-requires
 part-requires c κs =
@@ -53,7 +53,7 @@ returns-4 c =
     let e = c.before.before.before.before.before.end in
     let p = c.before.part in
     rw c.awaiting.ensures
-    (record { at = λ count ucount n st sx right f. looked-parted _ _ st sx _ _ right n _ _ f c.before.before.before.before.before.before.if1.false e.result e.ensures.0 c.before.before.before.before.if2.false _ p.ensures })
+    (record { at = λ count ucount n st sx right f. looked_parted _ _ st sx _ _ right n _ _ f c.before.before.before.before.before.before.if1.false e.result e.ensures.0 c.before.before.before.before.if2.false _ p.ensures })
 
 pub look_spec : {M : Type 1} → statement M
 look_spec =

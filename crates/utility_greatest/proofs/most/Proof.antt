@@ -4,14 +4,14 @@ use borrow.Author.Rules.{rules}
 use native.Mathlib.Omega.{arith}
 use mathlib.Core.Path.{refl, ◌∙◌}
 use Rattle.diagrams.specs.Store.{Table, tree}
-use Rattle.diagrams.proofs.Entries.{tree-canon}
+use Rattle.diagrams.proofs.Entries.{tree_canon}
 use Rattle.diagram_loops.proofs.Stacks.{top}
 use Rattle.diagram_loops.proofs.Loops.{empty, Ready}
-use Rattle.utility.specs.Within.{mostT}
+use Rattle.utility.specs.Within.{most_t}
 use Rattle.utility.specs.Reading.{nodes}
 use Rattle.utility_greatest.specs.Looking.{Looked}
 use Rattle.utility_greatest.proofs.Looking.{small}
-use Rattle.utility_greatest.proofs.Numbers.{above, upLeft, downLeft, Up, Down, DownOnto, Right, Going, Rising, down-same, rising-same, down-start, down-known, less-known, down-room, down-push, less_push, up_done, up_turn, less-turn, up-number, up-larger, less-larger, kept-ready}
+use Rattle.utility_greatest.proofs.Numbers.{above, up_left, down_left, Up, Down, DownOnto, Right, Going, Rising, down_same, rising_same, down_start, down_known, less_known, down_room, down_push, less_push, up_done, up_turn, less_turn, up_number, up_larger, less_larger, kept_ready}
 use Rattle.utility_greatest.proofs.most.Statement.{statement}
 use Rattle.utility_greatest.proofs.most.Tie as tie
 
@@ -20,21 +20,21 @@ invariant-loop2 bit low high ubit ulow uhigh memo count ucount stamp a u stack�
     DownOnto (nodes bit low high count) (nodes ubit ulow uhigh ucount) stack₀ stack depth₀ depth x₀ x y₀ y
 
 abbrev decreases-loop2 : tie.decreases-loop2
-decreases-loop2 bit low high ubit ulow uhigh memo count ucount stamp a u stack₀ depth₀ z x₀ y₀ stack depth x y = downLeft stack depth x y
+decreases-loop2 bit low high ubit ulow uhigh memo count ucount stamp a u stack₀ depth₀ z x₀ y₀ stack depth x y = down_left stack depth x y
 
 abbrev invariant-loop3 : tie.invariant-loop3
 invariant-loop3 bit low high ubit ulow uhigh memo₀ count ucount stamp a u stack₀ depth₀ z x₀ y₀ r₀ memo stack depth x y r =
     Rising (nodes bit low high count) (nodes ubit ulow uhigh ucount) stamp z.n memo₀ memo stack₀ stack depth₀ depth r₀ r
 
 abbrev decreases-loop3 : tie.decreases-loop3
-decreases-loop3 bit low high ubit ulow uhigh memo₀ count ucount stamp a u stack₀ depth₀ z x₀ y₀ r₀ memo stack depth x y r = upLeft stack depth
+decreases-loop3 bit low high ubit ulow uhigh memo₀ count ucount stamp a u stack₀ depth₀ z x₀ y₀ r₀ memo stack depth x y r = up_left stack depth
 
 abbrev invariant-loop : tie.invariant-loop
 invariant-loop bit low high ubit ulow uhigh memo₀ count ucount stamp a u stack₀ depth₀ z x₀ y₀ memo stack depth x y =
-    Going (nodes bit low high count) (nodes ubit ulow uhigh ucount) stamp z.n memo₀ memo (mostT (tree (nodes bit low high count) a) (tree (nodes ubit ulow uhigh ucount) u)) stack depth x y
+    Going (nodes bit low high count) (nodes ubit ulow uhigh ucount) stamp z.n memo₀ memo (most_t (tree (nodes bit low high count) a) (tree (nodes ubit ulow uhigh ucount) u)) stack depth x y
 
 abbrev decreases-loop : tie.decreases-loop
-decreases-loop bit low high ubit ulow uhigh memo₀ count ucount stamp a u stack₀ depth₀ z x₀ y₀ memo stack depth x y = downLeft stack depth x y
+decreases-loop bit low high ubit ulow uhigh memo₀ count ucount stamp a u stack₀ depth₀ z x₀ y₀ memo stack depth x y = down_left stack depth x y
 
 abbrev At : Type 0
 At = tie.At-loop invariant-loop2 decreases-loop2 invariant-loop3 decreases-loop3 invariant-loop decreases-loop
@@ -47,9 +47,9 @@ abbrev values : At → Table
 values p = let a = p.before.before.before.before.before.before.before.before.before.before.before.args in nodes a.ubit.now a.ulow.now a.uhigh.now a.ucount
 
 abbrev goal : At → ℕ
-goal p = mostT (tree (sets p) p.before.before.before.before.before.before.before.before.before.before.before.args.a) (tree (values p) p.before.before.before.before.before.before.before.before.before.before.before.args.u)
+goal p = most_t (tree (sets p) p.before.before.before.before.before.before.before.before.before.before.before.args.a) (tree (values p) p.before.before.before.before.before.before.before.before.before.before.before.args.u)
 
-smaller : (p : At) (a d : ℕ) → a < (sets p).count + 2 → d < (values p).count + 2 → mostT (tree (sets p) a) (tree (values p) d) < 4294967295
+smaller : (p : At) (a d : ℕ) → a < (sets p).count + 2 → d < (values p).count + 2 → most_t (tree (sets p) a) (tree (values p) d) < 4294967295
 smaller p = let o = p.before.before.before.before.before.before.before.before.before.before.before.requires.0 in small (sets p) (values p) o.0 o.1 (λ i. omega (arith, p.before.before.before.before.before.before.before.shared-slice-known4.given i))
 
 -- on the way down
@@ -74,7 +74,7 @@ abbrev Known : Type 0
 Known = tie.Then1 invariant-loop2 decreases-loop2 invariant-loop3 decreases-loop3 invariant-loop decreases-loop
 
 known_at : (c : Known) → let p = A2 c.before in Up (sets p.before) (values p.before) (goal p.before) p.loop2.stack p.loop2.depth c.before.look.result.name
-known_at c = down-known (down-at (A2 c.before)) _ ((looked c.before).shows c.if1.true)
+known_at c = down_known (down-at (A2 c.before)) _ ((looked c.before).shows c.if1.true)
 
 -- on the way up
 abbrev At3 : Type 0
@@ -104,26 +104,26 @@ loop-holds c =
     let la = a.requires.1.0.0 in
     let lu = a.requires.1.0.1 in
     record {
-      down = down-start s x _ a.args.a a.args.u refl (record { a-below = la; d-below = lu; a-from = tree-canon s o.0 a.args.a la; d-from = tree-canon x o.1 a.args.u lu });
+      down = down_start s x _ a.args.a a.args.u refl (record { a_below = la; d_below = lu; a_from = tree_canon s o.0 a.args.a la; d_from = tree_canon x o.1 a.args.u lu });
       memory = record { right = a.requires.1.1; size = c.slots.ensures };
       kept = refl;
     }
 
 loop2-holds : tie.Need-loop2-init invariant-loop2 decreases-loop2 invariant-loop3 decreases-loop3 invariant-loop decreases-loop
-loop2-holds c = down-same (sets c) (values c) _ _ _ _
+loop2-holds c = down_same (sets c) (values c) _ _ _ _
 
 look-requires : tie.Need-look-requires invariant-loop2 decreases-loop2 invariant-loop3 decreases-loop3 invariant-loop decreases-loop
 look-requires c κs =
     let p = c.before in
     let f = (down-at p).names in
     let o = p.before.before.before.before.before.before.before.before.before.before.before.before.requires.0 in
-    ((omega (arith, f.a-below, o.0.room), omega (arith, f.d-below, o.1.room), p.before.loop.invariant.memory.size), (o.0.low-length, o.0.high-length, o.1.low-length, o.1.high-length))
+    ((omega (arith, f.a_below, o.0.room), omega (arith, f.d_below, o.1.room), p.before.loop.invariant.memory.size), (o.0.low_length, o.0.high_length, o.1.low_length, o.1.high_length))
 
 mul-stack : tie.Need-overflow-mul-stack invariant-loop2 decreases-loop2 invariant-loop3 decreases-loop3 invariant-loop decreases-loop
 mul-stack c = omega (arith, (down-at c.before.before.before.before.before).up.deep)
 
 array-set-from-stack : tie.Need-array-set-from-stack invariant-loop2 decreases-loop2 invariant-loop3 decreases-loop3 invariant-loop decreases-loop
-array-set-from-stack c = down-room (down-at (A2 c.before.before.before)) _ ((looked c.before.before.before).parts c.before.before.if1.false)
+array-set-from-stack c = down_room (down-at (A2 c.before.before.before)) _ ((looked c.before.before.before).parts c.before.before.if1.false)
 
 add-depth : tie.Need-overflow-add-depth invariant-loop2 decreases-loop2 invariant-loop3 decreases-loop3 invariant-loop decreases-loop
 add-depth c = omega (arith, (down-at c.before.before.before.before.before).up.deep)
@@ -135,10 +135,10 @@ loop2-again : tie.Need-loop2-preserved invariant-loop2 decreases-loop2 invariant
 loop2-again c =
     let p = c.before.before.before.before.before in
     let q = (looked c.before.before.before).parts c.before.before.if1.false in
-    record { keeps = λ u k. down-push (p.loop2.invariant.keeps u k) _ q; falls = omega (arith, less_push (down-at p) _ q, p.loop2.invariant.falls) }
+    record { keeps = λ u k. down_push (p.loop2.invariant.keeps u k) _ q; falls = omega (arith, less_push (down-at p) _ q, p.loop2.invariant.falls) }
 
 loop3-holds : tie.Need-loop3-init invariant-loop2 decreases-loop2 invariant-loop3 decreases-loop3 invariant-loop decreases-loop
-loop3-holds c = rising-same (sets c.before.before.before.before) (values c.before.before.before.before) _ _ _ _ _ _
+loop3-holds c = rising_same (sets c.before.before.before.before) (values c.before.before.before.before) _ _ _ _ _ _
 
 same_length : tie.Need-same-length invariant-loop2 decreases-loop2 invariant-loop3 decreases-loop3 invariant-loop decreases-loop
 same_length c = let p = c.before in p.loop3.invariant.kept ∙ (A p).loop.invariant.kept
@@ -167,7 +167,7 @@ loop-less : tie.Need-loop-smaller invariant-loop2 decreases-loop2 invariant-loop
 loop-less c =
     let p = c.before.before.before.before.before.before in
     let d = p.before.before.before.before in
-    omega (arith, less-turn (up_at p) c.before.before.before.before.before.if2.false c.before.if3.true (smaller (A p)), p.loop3.invariant.up.falls, less-known (down-at d), d.loop2.invariant.falls)
+    omega (arith, less_turn (up_at p) c.before.before.before.before.before.if2.false c.before.if3.true (smaller (A p)), p.loop3.invariant.up.falls, less_known (down-at d), d.loop2.invariant.falls)
 
 loop-again : tie.Need-loop-preserved invariant-loop2 decreases-loop2 invariant-loop3 decreases-loop3 invariant-loop decreases-loop
 loop-again c =
@@ -181,7 +181,7 @@ keep-requires : tie.Need-keep-requires invariant-loop2 decreases-loop2 invariant
 keep-requires c κs = (ready_at c.before.before.before.before.before.before.before).size
 
 loop3-less : tie.Need-loop3-smaller invariant-loop2 decreases-loop2 invariant-loop3 decreases-loop3 invariant-loop decreases-loop
-loop3-less c = less-larger (up_at c.before.before.before.before.before.before.before.before.before.before) c.before.before.before.before.before.before.before.before.before.if2.false c.before.before.before.before.before.if3.false
+loop3-less c = less_larger (up_at c.before.before.before.before.before.before.before.before.before.before) c.before.before.before.before.before.before.before.before.before.if2.false c.before.before.before.before.before.if3.false
 
 loop3-again : tie.Need-loop3-preserved invariant-loop2 decreases-loop2 invariant-loop3 decreases-loop3 invariant-loop decreases-loop
 loop3-again c =
@@ -191,8 +191,8 @@ loop3-again c =
     let g = c.before.before.before.before.larger in
     let m = c.before.before.keep in
     record {
-      up = record { keeps = λ u k. up-larger (p.loop3.invariant.up.keeps u k) some ne _ g.ensures; falls = omega (arith, less-larger (up_at p) some ne, p.loop3.invariant.up.falls) };
-      memory = λ r. kept-ready (sets (A p)) (values (A p)) _ _ _ (p.loop3.invariant.memory r) _ _ _ g.result (up-number (up_at p) some ne _ g.ensures) m.ensures;
+      up = record { keeps = λ u k. up_larger (p.loop3.invariant.up.keeps u k) some ne _ g.ensures; falls = omega (arith, less_larger (up_at p) some ne, p.loop3.invariant.up.falls) };
+      memory = λ r. kept_ready (sets (A p)) (values (A p)) _ _ _ (p.loop3.invariant.memory r) _ _ _ g.result (up_number (up_at p) some ne _ g.ensures) m.ensures;
       kept = m.auto.0 ∙ p.loop3.invariant.kept;
     }
 

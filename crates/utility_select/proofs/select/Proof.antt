@@ -1,7 +1,7 @@
 -- `utility_select::select` meets its contract. Assumes nothing.
 use borrow.Author.Rules.{rules}
 use Rattle.diagrams.specs.Store.{table}
-use Rattle.diagrams.proofs.Memos.{stamp-fresh}
+use Rattle.diagrams.proofs.Memos.{stamp_fresh}
 use Rattle.utility.specs.Reading.{nodes}
 use Rattle.utility_select.specs.Select.{Selected}
 use Rattle.utility_select.proofs.select.Statement.{statement}
@@ -16,7 +16,7 @@ select-stamped-requires c κs =
     let k = c.before.before.before.before.before.before.before.before in
     let sets = table a.args.bit.now a.args.low.now a.args.high.now a.args.heads.now a.args.chain.now a.args.count in
     let values = nodes a.args.ubit.now a.args.ulow.now a.args.uhigh.now a.args.ucount in
-    (a.requires.0, (a.requires.1.0, stamp-fresh sets a.args.memo.now k.stamp.new.0 k.stamp.result (Selected values a.args.value sets) a.requires.1.1 k.stamp.ensures))
+    (a.requires.0, (a.requires.1.0, stamp_fresh sets a.args.memo.now k.stamp.new.0 k.stamp.result (Selected values a.args.value sets) a.requires.1.1 k.stamp.ensures))
 
 same_length : tie.Need-same-length
 same_length c = search rules

@@ -5,13 +5,13 @@ use mathlib.Core.Path.{refl, ◌∙◌}
 use Rattle.diagrams.specs.Tree.{Tree}
 use Rattle.diagrams.specs.Store.{Table, table}
 use Rattle.diagrams.proofs.Trees.{no_both}
-use Rattle.diagrams.proofs.Entries.{tree-canon}
+use Rattle.diagrams.proofs.Entries.{tree_canon}
 use Rattle.diagram_loops.specs.Loops.{Operation, Looked}
-use Rattle.diagram_loops.proofs.Stacks.{above, top, Lengths, lengths-same, lengths-then}
-use Rattle.diagram_loops.proofs.Loops.{empty, frame_of, Lawful, Down, Up, DownOnto, Ready, Going, Rising, downLeft, upLeft, down-same, rising-same, down-start, down-known, less-known, down-room, down-push, less_push, up_done, up_turn, less-turn, up-names, up-canon, up-full, up-made, less-node}
+use Rattle.diagram_loops.proofs.Stacks.{above, top, Lengths, lengths_same, lengths_then}
+use Rattle.diagram_loops.proofs.Loops.{empty, frame_of, Lawful, Down, Up, DownOnto, Ready, Going, Rising, down_left, up_left, down_same, rising_same, down_start, down_known, less_known, down_room, down_push, less_push, up_done, up_turn, less_turn, up_names, up_canon, up_full, up_made, less_node}
 use Rattle.utility.specs.Reading.{nodes}
 use Rattle.utility_select.specs.Selecting.{selecting}
-use Rattle.utility_select.proofs.Selecting.{Right, lawful, kept-ready}
+use Rattle.utility_select.proofs.Selecting.{Right, lawful, kept_ready}
 use Rattle.utility_select.proofs.select_stamped.Statement.{statement}
 use Rattle.utility_select.proofs.select_stamped.Tie as tie
 
@@ -20,14 +20,14 @@ invariant-loop2 bit low high heads chain memo ubit ulow uhigh count ucount stamp
     DownOnto (selecting (nodes ubit ulow uhigh ucount) value) (table bit low high heads chain entries) (table bit low high heads chain entries) stack₀ stack depth₀ depth x₀ x y₀ y
 
 abbrev decreases-loop2 : tie.decreases-loop2
-decreases-loop2 bit low high heads chain memo ubit ulow uhigh count ucount stamp value a u stack₀ depth₀ entries z x₀ y₀ stack depth x y = downLeft (selecting (nodes ubit ulow uhigh ucount) value) stack depth x y
+decreases-loop2 bit low high heads chain memo ubit ulow uhigh count ucount stamp value a u stack₀ depth₀ entries z x₀ y₀ stack depth x y = down_left (selecting (nodes ubit ulow uhigh ucount) value) stack depth x y
 
 abbrev invariant-loop3 : tie.invariant-loop3
 invariant-loop3 bit₀ low₀ high₀ heads₀ chain₀ memo₀ ubit ulow uhigh count ucount stamp value a u stack₀ depth₀ entries₀ z x₀ y₀ r₀ bit low high heads chain memo stack depth entries x y r =
     Rising (selecting (nodes ubit ulow uhigh ucount) value) (Right (nodes ubit ulow uhigh ucount) value stamp) z.n (table bit₀ low₀ high₀ heads₀ chain₀ entries₀) (table bit low high heads chain entries) memo₀ memo stack₀ stack depth₀ depth r₀ r
 
 abbrev decreases-loop3 : tie.decreases-loop3
-decreases-loop3 bit₀ low₀ high₀ heads₀ chain₀ memo₀ ubit ulow uhigh count ucount stamp value a u stack₀ depth₀ entries₀ z x₀ y₀ r₀ bit low high heads chain memo stack depth entries x y r = upLeft (selecting (nodes ubit ulow uhigh ucount) value) stack depth
+decreases-loop3 bit₀ low₀ high₀ heads₀ chain₀ memo₀ ubit ulow uhigh count ucount stamp value a u stack₀ depth₀ entries₀ z x₀ y₀ r₀ bit low high heads chain memo stack depth entries x y r = up_left (selecting (nodes ubit ulow uhigh ucount) value) stack depth
 
 abbrev invariant-loop : tie.invariant-loop
 invariant-loop bit₀ low₀ high₀ heads₀ chain₀ memo₀ ubit ulow uhigh count ucount stamp value a u stack₀ depth₀ entries₀ z x₀ y₀ bit low high heads chain memo stack depth entries x y =
@@ -35,7 +35,7 @@ invariant-loop bit₀ low₀ high₀ heads₀ chain₀ memo₀ ubit ulow uhigh c
     Going (selecting (nodes ubit ulow uhigh ucount) value) (Right (nodes ubit ulow uhigh ucount) value stamp) z.n s₀ (table bit low high heads chain entries) memo₀ memo ((selecting (nodes ubit ulow uhigh ucount) value).result s₀ a u) stack depth x y
 
 abbrev decreases-loop : tie.decreases-loop
-decreases-loop bit₀ low₀ high₀ heads₀ chain₀ memo₀ ubit ulow uhigh count ucount stamp value a u stack₀ depth₀ entries₀ z x₀ y₀ bit low high heads chain memo stack depth entries x y = downLeft (selecting (nodes ubit ulow uhigh ucount) value) stack depth x y
+decreases-loop bit₀ low₀ high₀ heads₀ chain₀ memo₀ ubit ulow uhigh count ucount stamp value a u stack₀ depth₀ entries₀ z x₀ y₀ bit low high heads chain memo stack depth entries x y = down_left (selecting (nodes ubit ulow uhigh ucount) value) stack depth x y
 
 abbrev At : Type 0
 At = tie.At-loop invariant-loop2 decreases-loop2 invariant-loop3 decreases-loop3 invariant-loop decreases-loop
@@ -81,7 +81,7 @@ abbrev Known : Type 0
 Known = tie.Then1 invariant-loop2 decreases-loop2 invariant-loop3 decreases-loop3 invariant-loop decreases-loop
 
 known_at : (c : Known) → let p = A2 c.before in Up (op p.before) (begun p.before) (here p.before) (goal p.before) p.loop2.stack p.loop2.depth c.before.look.result.name
-known_at c = let p = A2 c.before in let s = (looked c.before).shows c.if1.true in down-known (law p.before) (down-at p) _ s.0 s.1
+known_at c = let p = A2 c.before in let s = (looked c.before).shows c.if1.true in down_known (law p.before) (down-at p) _ s.0 s.1
 
 -- on the way up
 abbrev At3 : Type 0
@@ -100,7 +100,7 @@ ready_at : (p : At3) → Ready (Right (values (A p)) (A p).before.before.before.
 ready_at p = p.loop3.invariant.memory (A p).loop.invariant.memory
 
 lengths-at : (p : At3) → Lengths (begun (A p)) (here3 p) (A p).before.before.before.before.before.before.before.before.before.before.before.before.before.args.memo.now p.loop3.memo
-lengths-at p = lengths-then (begun (A p)) (here (A p)) (here3 p) _ _ _ (A p).loop.invariant.lengths p.loop3.invariant.lengths
+lengths-at p = lengths_then (begun (A p)) (here (A p)) (here3 p) _ _ _ (A p).loop.invariant.lengths p.loop3.invariant.lengths
 
 -- after the node
 abbrev Made : Type 0
@@ -124,13 +124,13 @@ loop-holds c =
     let la = a.requires.1.0.0 in
     let lu = a.requires.1.0.1 in
     record {
-      down = down-start (lawful x a.args.value) s _ a.args.a a.args.u refl st (record { a-below = la; d-below = lu; a-from = tree-canon s st a.args.a la; d-from = tree-canon x a.requires.0.1 a.args.u lu });
+      down = down_start (lawful x a.args.value) s _ a.args.a a.args.u refl st (record { a_below = la; d_below = lu; a_from = tree_canon s st a.args.a la; d_from = tree_canon x a.requires.0.1 a.args.u lu });
       memory = record { right = a.requires.1.1; size = c.slots.ensures };
-      lengths = lengths-same s a.args.memo.now;
+      lengths = lengths_same s a.args.memo.now;
     }
 
 loop2-holds : tie.Need-loop2-init invariant-loop2 decreases-loop2 invariant-loop3 decreases-loop3 invariant-loop decreases-loop
-loop2-holds c = down-same _ (here c) _ _ _ _
+loop2-holds c = down_same _ (here c) _ _ _ _
 
 look-requires : tie.Need-look-requires invariant-loop2 decreases-loop2 invariant-loop3 decreases-loop3 invariant-loop decreases-loop
 look-requires c κs =
@@ -138,13 +138,13 @@ look-requires c κs =
     let k = down-at p in
     let st = k.walk.run.store in
     let sx = p.before.before.before.before.before.before.before.before.before.before.before.before.before.before.requires.0.1 in
-    ((omega (arith, k.fit.a-below, st.room), omega (arith, k.fit.d-below, sx.room), p.before.loop.invariant.memory.size), (st.low-length, st.high-length, sx.low-length, sx.high-length))
+    ((omega (arith, k.fit.a_below, st.room), omega (arith, k.fit.d_below, sx.room), p.before.loop.invariant.memory.size), (st.low_length, st.high_length, sx.low_length, sx.high_length))
 
 mul-stack : tie.Need-overflow-mul-stack invariant-loop2 decreases-loop2 invariant-loop3 decreases-loop3 invariant-loop decreases-loop
 mul-stack c = omega (arith, (down-at c.before.before.before.before.before.before.before.before).deep)
 
 array-set-from-stack : tie.Need-array-set-from-stack invariant-loop2 decreases-loop2 invariant-loop3 decreases-loop3 invariant-loop decreases-loop
-array-set-from-stack c = down-room (law c.before.before.before.before.before.before.before.before.before) (down-at (A2 c.before.before.before)) _ ((looked c.before.before.before).parts c.before.before.if1.false)
+array-set-from-stack c = down_room (law c.before.before.before.before.before.before.before.before.before) (down-at (A2 c.before.before.before)) _ ((looked c.before.before.before).parts c.before.before.if1.false)
 
 add-depth : tie.Need-overflow-add-depth invariant-loop2 decreases-loop2 invariant-loop3 decreases-loop3 invariant-loop decreases-loop
 add-depth c = omega (arith, (down-at c.before.before.before.before.before.before.before.before).deep)
@@ -160,12 +160,12 @@ loop2-again c =
     record {
       keeps = λ s₀ u k.
           let k' = p.loop2.invariant.keeps s₀ u k in
-          down-push (law p.before) k' _ ((e.look.ensures.at _ _ _ _ _ k'.walk.run.store p.before.before.before.before.before.before.before.before.before.before.before.before.before.before.requires.0.1 p.before.loop.invariant.memory.right k'.fit).parts n);
+          down_push (law p.before) k' _ ((e.look.ensures.at _ _ _ _ _ k'.walk.run.store p.before.before.before.before.before.before.before.before.before.before.before.before.before.before.requires.0.1 p.before.loop.invariant.memory.right k'.fit).parts n);
       falls = omega (arith, less_push (law c.before.before.before.before.before.before.before.before.before) (down-at (A2 c.before.before.before)) _ ((looked c.before.before.before).parts c.before.before.if1.false), p.loop2.invariant.falls);
     }
 
 loop3-holds : tie.Need-loop3-init invariant-loop2 decreases-loop2 invariant-loop3 decreases-loop3 invariant-loop decreases-loop
-loop3-holds c = rising-same _ _ (here c.before.before.before.before.before.before.before) _ _ _ _
+loop3-holds c = rising_same _ _ (here c.before.before.before.before.before.before.before) _ _ _ _
 
 done-requires : tie.Need-done-requires invariant-loop2 decreases-loop2 invariant-loop3 decreases-loop3 invariant-loop decreases-loop
 done-requires c κs = search rules
@@ -212,7 +212,7 @@ loop-less : tie.Need-loop-smaller invariant-loop2 decreases-loop2 invariant-loop
 loop-less c =
     let p = c.before.before.before.before.before.before in
     let d = p.before.before.before.before.before.before.before in
-    omega (arith, less-turn (law c.before.before.before.before.before.before.before.before.before.before.before.before.before.before) (up_at c.before.before.before.before.before.before) c.before.before.before.before.before.if2.false c.before.if3.true tt, p.loop3.invariant.up.falls, less-known (law (A p)) (down-at d), d.loop2.invariant.falls)
+    omega (arith, less_turn (law c.before.before.before.before.before.before.before.before.before.before.before.before.before.before) (up_at c.before.before.before.before.before.before) c.before.before.before.before.before.if2.false c.before.if3.true tt, p.loop3.invariant.up.falls, less_known (law (A p)) (down-at d), d.loop2.invariant.falls)
 
 loop-again : tie.Need-loop-preserved invariant-loop2 decreases-loop2 invariant-loop3 decreases-loop3 invariant-loop decreases-loop
 loop-again c =
@@ -220,7 +220,7 @@ loop-again c =
     record { down = up_turn (law c.before.before.before.before.before.before.before.before.before.before.before.before.before.before) (up_at c.before.before.before.before.before.before) c.before.before.before.before.before.if2.false c.before.if3.true tt; memory = ready_at p; lengths = lengths-at p }
 
 mk-requires : tie.Need-mk-requires invariant-loop2 decreases-loop2 invariant-loop3 decreases-loop3 invariant-loop decreases-loop
-mk-requires c κs = ((up_at c.before.before.before.before.before.before.before.before.before.before).walk.run.store, (up-names (law c.before.before.before.before.before.before.before.before.before.before.before.before.before.before.before.before.before.before) (up_at c.before.before.before.before.before.before.before.before.before.before) c.before.before.before.before.before.before.before.before.before.if2.false c.before.before.before.before.before.if3.false, up-canon (law c.before.before.before.before.before.before.before.before.before.before.before.before.before.before.before.before.before.before) (up_at c.before.before.before.before.before.before.before.before.before.before) c.before.before.before.before.before.before.before.before.before.if2.false c.before.before.before.before.before.if3.false))
+mk-requires c κs = ((up_at c.before.before.before.before.before.before.before.before.before.before).walk.run.store, (up_names (law c.before.before.before.before.before.before.before.before.before.before.before.before.before.before.before.before.before.before) (up_at c.before.before.before.before.before.before.before.before.before.before) c.before.before.before.before.before.before.before.before.before.if2.false c.before.before.before.before.before.if3.false, up_canon (law c.before.before.before.before.before.before.before.before.before.before.before.before.before.before.before.before.before.before) (up_at c.before.before.before.before.before.before.before.before.before.before) c.before.before.before.before.before.before.before.before.before.if2.false c.before.before.before.before.before.if3.false))
 
 same-length-7 : tie.Need-same-length-7 invariant-loop2 decreases-loop2 invariant-loop3 decreases-loop3 invariant-loop decreases-loop
 same-length-7 c = c.before.before.before.before.before.before.before.before.before.before.before.mk.auto.0 ∙ (lengths-at c.before.before.before.before.before.before.before.before.before.before.before.before.before.before.before.before.before.before.before.before.before.before).bit
@@ -243,13 +243,13 @@ same-length-12 c = (lengths-at c.before.before.before.before.before.before.befor
 returns-2 : tie.Need-returns-2 invariant-loop2 decreases-loop2 invariant-loop3 decreases-loop3 invariant-loop decreases-loop
 returns-2 c =
     let q = c.before.before.before.before.before.before.before.before.before.before.before in
-    record { makes = up-full (law c.before.before.before.before.before.before.before.before.before.before.before.before.before.before.before.before.before.before.before.before.before.before.before.before.before.before.before.before.before.before) (up_at c.before.before.before.before.before.before.before.before.before.before.before.before.before.before.before.before.before.before.before.before.before.before) c.before.before.before.before.before.before.before.before.before.before.before.before.before.before.before.before.before.before.before.before.before.if2.false c.before.before.before.before.before.before.before.before.before.before.before.before.before.before.before.before.before.if3.false (node-tab q) q.mk.result q.mk.ensures _ c.if4.true; keeps = λ n. absurd (no_both c.if4.true n) }
+    record { makes = up_full (law c.before.before.before.before.before.before.before.before.before.before.before.before.before.before.before.before.before.before.before.before.before.before.before.before.before.before.before.before.before.before) (up_at c.before.before.before.before.before.before.before.before.before.before.before.before.before.before.before.before.before.before.before.before.before.before) c.before.before.before.before.before.before.before.before.before.before.before.before.before.before.before.before.before.before.before.before.before.if2.false c.before.before.before.before.before.before.before.before.before.before.before.before.before.before.before.before.before.if3.false (node-tab q) q.mk.result q.mk.ensures _ c.if4.true; keeps = λ n. absurd (no_both c.if4.true n) }
 
 keep-requires : tie.Need-keep-requires invariant-loop2 decreases-loop2 invariant-loop3 decreases-loop3 invariant-loop decreases-loop
 keep-requires c κs = (ready_at c.before.before.before.before.before.before.before.before.before.before.before.before.before.before.before.before.before.before.before.before.before.before.before).size
 
 loop3-less : tie.Need-loop3-smaller invariant-loop2 decreases-loop2 invariant-loop3 decreases-loop3 invariant-loop decreases-loop
-loop3-less c = less-node (law c.before.before.before.before.before.before.before.before.before.before.before.before.before.before.before.before.before.before.before.before.before.before.before.before.before.before.before.before.before.before.before.before.before.before) (up_at c.before.before.before.before.before.before.before.before.before.before.before.before.before.before.before.before.before.before.before.before.before.before.before.before.before.before) c.before.before.before.before.before.before.before.before.before.before.before.before.before.before.before.before.before.before.before.before.before.before.before.before.before.if2.false c.before.before.before.before.before.before.before.before.before.before.before.before.before.before.before.before.before.before.before.before.before.if3.false
+loop3-less c = less_node (law c.before.before.before.before.before.before.before.before.before.before.before.before.before.before.before.before.before.before.before.before.before.before.before.before.before.before.before.before.before.before.before.before.before.before) (up_at c.before.before.before.before.before.before.before.before.before.before.before.before.before.before.before.before.before.before.before.before.before.before.before.before.before.before) c.before.before.before.before.before.before.before.before.before.before.before.before.before.before.before.before.before.before.before.before.before.before.before.before.before.if2.false c.before.before.before.before.before.before.before.before.before.before.before.before.before.before.before.before.before.before.before.before.before.if3.false
 
 loop3-again : tie.Need-loop3-preserved invariant-loop2 decreases-loop2 invariant-loop3 decreases-loop3 invariant-loop decreases-loop
 loop3-again c =
@@ -259,11 +259,11 @@ loop3-again c =
     let e = c.before.before.before.before.if4.false in
     record {
       up = record {
-        keeps = λ s₀ u k. up-made (law (A p)) (p.loop3.invariant.up.keeps s₀ u k) c.before.before.before.before.before.before.before.before.before.before.before.before.before.before.before.before.before.before.before.before.before.before.before.before.before.if2.false c.before.before.before.before.before.before.before.before.before.before.before.before.before.before.before.before.before.before.before.before.before.if3.false (node-tab q) q.mk.result q.mk.ensures e q.mk.auto.0;
-        falls = omega (arith, less-node (law c.before.before.before.before.before.before.before.before.before.before.before.before.before.before.before.before.before.before.before.before.before.before.before.before.before.before.before.before.before.before.before.before.before.before) (up_at c.before.before.before.before.before.before.before.before.before.before.before.before.before.before.before.before.before.before.before.before.before.before.before.before.before.before) c.before.before.before.before.before.before.before.before.before.before.before.before.before.before.before.before.before.before.before.before.before.before.before.before.before.if2.false c.before.before.before.before.before.before.before.before.before.before.before.before.before.before.before.before.before.before.before.before.before.if3.false, p.loop3.invariant.up.falls);
+        keeps = λ s₀ u k. up_made (law (A p)) (p.loop3.invariant.up.keeps s₀ u k) c.before.before.before.before.before.before.before.before.before.before.before.before.before.before.before.before.before.before.before.before.before.before.before.before.before.if2.false c.before.before.before.before.before.before.before.before.before.before.before.before.before.before.before.before.before.before.before.before.before.if3.false (node-tab q) q.mk.result q.mk.ensures e q.mk.auto.0;
+        falls = omega (arith, less_node (law c.before.before.before.before.before.before.before.before.before.before.before.before.before.before.before.before.before.before.before.before.before.before.before.before.before.before.before.before.before.before.before.before.before.before) (up_at c.before.before.before.before.before.before.before.before.before.before.before.before.before.before.before.before.before.before.before.before.before.before.before.before.before.before) c.before.before.before.before.before.before.before.before.before.before.before.before.before.before.before.before.before.before.before.before.before.before.before.before.before.if2.false c.before.before.before.before.before.before.before.before.before.before.before.before.before.before.before.before.before.before.before.before.before.if3.false, p.loop3.invariant.up.falls);
       };
-      memory = λ r₀. kept-ready (values (A p)) _ _ (up_at c.before.before.before.before.before.before.before.before.before.before.before.before.before.before.before.before.before.before.before.before.before.before.before.before.before.before) c.before.before.before.before.before.before.before.before.before.before.before.before.before.before.before.before.before.before.before.before.before.before.before.before.before.if2.false c.before.before.before.before.before.before.before.before.before.before.before.before.before.before.before.before.before.before.before.before.before.if3.false (node-tab q) q.mk.result q.mk.ensures e _ _ (p.loop3.invariant.memory r₀) _ m.keep.ensures;
-      lengths = lengths-then _ (here3 p) (node-tab q) _ _ _ p.loop3.invariant.lengths (record { bit = q.mk.auto.0; low = q.mk.auto.1.0; high = q.mk.auto.1.1.0; heads = q.mk.auto.1.1.1.0; chain = q.mk.auto.1.1.1.1.0; slots = m.keep.auto.0 });
+      memory = λ r₀. kept_ready (values (A p)) _ _ (up_at c.before.before.before.before.before.before.before.before.before.before.before.before.before.before.before.before.before.before.before.before.before.before.before.before.before.before) c.before.before.before.before.before.before.before.before.before.before.before.before.before.before.before.before.before.before.before.before.before.before.before.before.before.if2.false c.before.before.before.before.before.before.before.before.before.before.before.before.before.before.before.before.before.before.before.before.before.if3.false (node-tab q) q.mk.result q.mk.ensures e _ _ (p.loop3.invariant.memory r₀) _ m.keep.ensures;
+      lengths = lengths_then _ (here3 p) (node-tab q) _ _ _ p.loop3.invariant.lengths (record { bit = q.mk.auto.0; low = q.mk.auto.1.0; high = q.mk.auto.1.1.0; heads = q.mk.auto.1.1.1.0; chain = q.mk.auto.1.1.1.1.0; slots = m.keep.auto.0 });
     }
 
 pub select-stamped-spec : {M : Type 1} → statement M

@@ -6,13 +6,13 @@ use native.Mathlib.Omega.{arith}
 use borrow.Author.Rules.{rules}
 use lib.ListN.{length}
 use Rattle.planning.proofs.Guards.{wrong, right}
-use Rattle.planning.proofs.Scan.{EveryFrom, every-none, every_more, every-stop, every-done}
+use Rattle.planning.proofs.Scan.{EveryFrom, every_none, every_more, every_stop, every_done}
 use Rattle.task.specs.Format.{operators, bound}
 use Rattle.task.specs.Decode.{task_of}
 use Rattle.task_states.specs.States.{met}
-use Rattle.task_states.proofs.StateLaws.{holds-every}
-use Rattle.walk.specs.Walk.{walkFrom, steps}
-use Rattle.walk.proofs.Steps.{WalkAt, walk_none, walk-17, walk-18, walk-19, walk-on, walk_end, pre_is, cost-is, state-is, stopped, finished}
+use Rattle.task_states.proofs.StateLaws.{holds_every}
+use Rattle.walk.specs.Walk.{walk_from, steps}
+use Rattle.walk.proofs.Steps.{WalkAt, walk_none, walk_17, walk_18, walk_19, walk_on, walk_end, pre_is, cost_is, state_is, stopped, finished}
 use Rattle.walk.proofs.follow.Statement.{statement}
 use Rattle.walk.proofs.follow.Tie as tie
 
@@ -24,7 +24,7 @@ decreases-loop file plan state n count limit spent fault₀ at o «record» row 
 
 abbrev invariant-steps : tie.invariant-steps
 invariant-steps file plan state₀ n count limit spent₀ fault₀ at₀ state spent fault at =
-    WalkAt file plan (walkFrom (task_of file) 0 state₀ 0 (steps plan)) state spent at
+    WalkAt file plan (walk_from (task_of file) 0 state₀ 0 (steps plan)) state spent at
     × ((at ≤ length plan / 2)
     × ((spent < 65536) × ((length state ≡ length state₀) × ((count ≡ operators file) × (limit ≡ bound file)))))
 
@@ -60,7 +60,7 @@ precondition-count-requires :
 precondition-count-requires c κs = search rules
 
 loop-holds : tie.Need-loop-init invariant-loop decreases-loop invariant-steps decreases-steps
-loop-holds c = every-none _ _
+loop-holds c = every_none _ _
 
 met-requires : tie.Need-met-requires invariant-loop decreases-loop invariant-steps decreases-steps
 met-requires c κs = omega arith
@@ -109,15 +109,15 @@ steps-again c =
     let reads = records.before.before in
     let at = reads.before.before in
     let is = records.operator-record.ensures in (
-      walk-on _ _ _ _ _ _ _ reads.before.if1.false at.steps.invariant.0 reads.le16.ensures.is (omega (arith, at.steps.invariant))
+      walk_on _ _ _ _ _ _ _ reads.before.if1.false at.steps.invariant.0 reads.le16.ensures.is (omega (arith, at.steps.invariant))
           _
           (pre_is _ _ _ is _ _ rows.preconditions.ensures counted.precondition-count.ensures.is)
-          (every-done _ _ _ costs.before.loop-test.false loop.loop.invariant ∙ holds-every _ _ _)
+          (every_done _ _ _ costs.before.loop-test.false loop.loop.invariant ∙ holds_every _ _ _)
           _
-          (cost-is _ _ _ is _ _ costs.cost.ensures.is)
+          (cost_is _ _ _ is _ _ costs.cost.ensures.is)
           _
           (omega (arith, at.steps.invariant))
-          (state-is _ _ _ is _ _ _ _ r.apply.ensures r.before.before.effects.ensures r.before.effect-count.ensures.is),
+          (state_is _ _ _ is _ _ _ _ r.apply.ensures r.before.before.effects.ensures r.before.effect-count.ensures.is),
       (
         omega (arith, at.steps.invariant),
         (omega (arith, at.steps.invariant, at.before.bound.ensures), (r.apply.auto.0 ∙ at.steps.invariant.1.1.1.0, at.steps.invariant.1.1.1.1)),
@@ -136,20 +136,20 @@ returns c =
     ⊎_elim
     (λ w. absurd (omega (arith, c.if5.true)))
     (⊎_elim
-    (λ w. stopped _ _ _ _ _ w.4 w.5 (walk-17 _ _ _ _ _ _ _ w.0.left at.steps.invariant.0 w.1.ensures.is (omega (arith, at.steps.invariant))))
+    (λ w. stopped _ _ _ _ _ w.4 w.5 (walk_17 _ _ _ _ _ _ _ w.0.left at.steps.invariant.0 w.1.ensures.is (omega (arith, at.steps.invariant))))
     (⊎_elim
     (λ w.
     stopped _ _ _ _ _ w.12 w.13
-    (walk-18 _ _ _ _ _ _ _ w.0.left at.steps.invariant.0 w.1.ensures.is (omega (arith, at.steps.invariant)) _
+    (walk_18 _ _ _ _ _ _ _ w.0.left at.steps.invariant.0 w.1.ensures.is (omega (arith, at.steps.invariant)) _
     (pre_is _ _ _ w.3.ensures _ _ w.4.ensures w.5.ensures.is)
-    (every-stop _ _ _ w.7.taken w.6.inv (wrong _ _ w.9.ensures w.10.taken) ∙ holds-every _ _ _)))
+    (every_stop _ _ _ w.7.taken w.6.inv (wrong _ _ w.9.ensures w.10.taken) ∙ holds_every _ _ _)))
     (λ w.
     stopped _ _ _ _ _ w.11 w.12
-    (walk-19 _ _ _ _ _ _ _ w.0.left at.steps.invariant.0 w.1.ensures.is (omega (arith, at.steps.invariant)) _
+    (walk_19 _ _ _ _ _ _ _ w.0.left at.steps.invariant.0 w.1.ensures.is (omega (arith, at.steps.invariant)) _
     (pre_is _ _ _ w.3.ensures _ _ w.4.ensures w.5.ensures.is)
-    (every-done _ _ _ w.7.left w.6.inv ∙ holds-every _ _ _)
+    (every_done _ _ _ w.7.left w.6.inv ∙ holds_every _ _ _)
     _
-    (cost-is _ _ _ w.3.ensures _ _ w.8.ensures.is)
+    (cost_is _ _ _ w.3.ensures _ _ w.8.ensures.is)
     (omega (arith, at.steps.invariant))))))
     c.before.if1.branch
 

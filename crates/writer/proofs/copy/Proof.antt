@@ -2,7 +2,7 @@
 use Prim.Native.Nat.{◌-◌}
 use native.Mathlib.Omega.{arith}
 use lib.ListN.{length}
-use Rattle.writer.proofs.Overlays.{Copied, copied_none, copied_more, copied-done}
+use Rattle.writer.proofs.Overlays.{Copied, copied_none, copied_more, copied_done}
 use Rattle.writer.proofs.copy.Statement.{statement}
 use Rattle.writer.proofs.copy.Tie as tie
 
@@ -18,8 +18,8 @@ loop-holds c = copied_none _ _ _
 shared-slice-read-out : tie.Need-shared-slice-read-out invariant-loop decreases-loop
 shared-slice-read-out c = omega arith
 
-add-out : tie.Need-overflow-add-out invariant-loop decreases-loop
-add-out c = omega arith
+add_out : tie.Need-overflow-add-out invariant-loop decreases-loop
+add_out c = omega arith
 
 slice-write-out : tie.Need-slice-write-out invariant-loop decreases-loop
 slice-write-out c = omega arith
@@ -37,7 +37,7 @@ same_length : tie.Need-same-length invariant-loop decreases-loop
 same_length c = c.before.loop.invariant.long
 
 returns : tie.Need-returns invariant-loop decreases-loop
-returns c = copied-done _ _ _ _ _ c.loop-test.false c.before.loop.invariant
+returns c = copied_done _ _ _ _ _ c.loop-test.false c.before.loop.invariant
 
 pub copy_spec : {M : Type 1} → statement M
 copy_spec =
@@ -47,7 +47,7 @@ copy_spec =
     decreases-loop
     loop-holds
     shared-slice-read-out
-    add-out
+    add_out
     slice-write-out
     add-i
     loop-less

@@ -1,7 +1,7 @@
 use borrow.Author.Rules.{rules}
 use native.Mathlib.Omega.{arith}
 use lib.ListN.{length-set}
-use Rattle.writer.proofs.Overlays.{overlay-stores}
+use Rattle.writer.proofs.Overlays.{overlay_stores}
 use Rattle.writer.proofs.put16.Statement.{statement}
 use Rattle.writer.proofs.put16.Tie as tie
 
@@ -14,8 +14,8 @@ slice-write-out c = search rules
 cast-out-2 : tie.Need-overflow-cast-out-2
 cast-out-2 c = search rules
 
-add-out : tie.Need-overflow-add-out
-add-out c = search rules
+add_out : tie.Need-overflow-add-out
+add_out c = search rules
 
 slice-write-out-2 : tie.Need-slice-write-out-2
 slice-write-out-2 c = rw (length-set _ _ _) (omega arith)
@@ -24,9 +24,9 @@ same_length : tie.Need-same-length
 same_length c = search rules
 
 returns : tie.Need-returns
-returns c = overlay-stores _ _ _ _ (omega arith)
+returns c = overlay_stores _ _ _ _ (omega arith)
 
 pub put16-spec : {M : Type 1} → statement M
 put16-spec =
     tie.close
-    (tie.spec cast-out slice-write-out cast-out-2 add-out slice-write-out-2 same_length returns)
+    (tie.spec cast-out slice-write-out cast-out-2 add_out slice-write-out-2 same_length returns)

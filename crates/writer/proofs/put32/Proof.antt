@@ -1,7 +1,7 @@
 use borrow.Author.Rules.{rules}
 use native.Mathlib.Omega.{arith}
 use Rattle.task.specs.Bytes.{bytes16}
-use Rattle.writer.proofs.Overlays.{overlay-behind}
+use Rattle.writer.proofs.Overlays.{overlay_behind}
 use Rattle.writer.proofs.put32.Statement.{statement}
 use Rattle.writer.proofs.put32.Tie as tie
 
@@ -21,7 +21,7 @@ returns : tie.Need-returns
 returns c =
     let b = c.before.before in
     let a = b.before.before.before.before in
-    rw (b.put162.ensures, a.put16.ensures) (overlay-behind _ _ (bytes16 _) (bytes16 _) (omega arith))
+    rw (b.put162.ensures, a.put16.ensures) (overlay_behind _ _ (bytes16 _) (bytes16 _) (omega arith))
 
 pub put32-spec : {M : Type 1} → statement M
 put32-spec = tie.close (tie.spec put16-requires add-put16 put16-requires-2 same_length returns)

@@ -4,7 +4,7 @@ use native.Mathlib.Omega.{arith}
 use borrow.Author.Rules.{rules}
 use Rattle.task.specs.Bytes.{bytes16}
 use Rattle.writer.specs.Canonical.{counts}
-use Rattle.writer.proofs.Writing.{put-behind}
+use Rattle.writer.proofs.Writing.{put_behind}
 use Rattle.writer.proofs.put_counts.Statement.{statement}
 use Rattle.writer.proofs.put_counts.Tie as tie
 
@@ -50,10 +50,10 @@ returns c =
     let a2 = a3.before.before.before.before.before in
     let a1 = a2.before.before.before.before.before in
     let h1 = a1.copy.ensures in
-    let h2 = put-behind _ _ _ _ bytes16 0 4 _ _ h1 a2.put16.ensures a2.before.variables.ensures.is refl (omega arith) in
-    let h3 = put-behind _ _ _ _ bytes16 0 6 _ _ h2 a3.put162.ensures a3.before.operators.ensures.is refl (omega arith) in
-    let h4 = put-behind _ _ _ _ bytes16 0 8 _ _ h3 a4.put163.ensures a4.before.terms.ensures.is refl (omega arith) in
-    put-behind _ _ _ _ bytes16 0 10 _ _ h4 a5.put164.ensures a5.before.bound.ensures.is refl (omega arith)
+    let h2 = put_behind _ _ _ _ bytes16 0 4 _ _ h1 a2.put16.ensures a2.before.variables.ensures.is refl (omega arith) in
+    let h3 = put_behind _ _ _ _ bytes16 0 6 _ _ h2 a3.put162.ensures a3.before.operators.ensures.is refl (omega arith) in
+    let h4 = put_behind _ _ _ _ bytes16 0 8 _ _ h3 a4.put163.ensures a4.before.terms.ensures.is refl (omega arith) in
+    put_behind _ _ _ _ bytes16 0 10 _ _ h4 a5.put164.ensures a5.before.bound.ensures.is refl (omega arith)
 
 pub put-counts-spec : {M : Type 1} → statement M
 put-counts-spec =

@@ -4,8 +4,8 @@ use native.Mathlib.Omega.{arith}
 use borrow.Author.Rules.{rules}
 use Rattle.task.specs.Bytes.{bytes32}
 use Rattle.writer.specs.Canonical.{offsets}
-use Rattle.writer.proofs.Overlays.{overlay-nothing}
-use Rattle.writer.proofs.Writing.{put-behind}
+use Rattle.writer.proofs.Overlays.{overlay_nothing}
+use Rattle.writer.proofs.Writing.{put_behind}
 use Rattle.writer.proofs.put_offsets.Statement.{statement}
 use Rattle.writer.proofs.put_offsets.Tie as tie
 
@@ -43,11 +43,11 @@ returns c =
     let a3 = a4.before.before.before.before.before in
     let a2 = a3.before.before.before.before.before in
     let a1 = a2.before.before.before.before.before in
-    let h0 = overlay-nothing _ 12 in
-    let h1 = put-behind _ _ _ _ bytes32 12 12 _ _ h0 a1.put32.ensures a1.before.begin.ensures.is refl (omega arith) in
-    let h2 = put-behind _ _ _ _ bytes32 12 16 _ _ h1 a2.put322.ensures a2.before.begin2.ensures.is refl (omega arith) in
-    let h3 = put-behind _ _ _ _ bytes32 12 20 _ _ h2 a3.put323.ensures a3.before.begin3.ensures.is refl (omega arith) in
-    put-behind _ _ _ _ bytes32 12 24 _ _ h3 a4.put324.ensures a4.before.begin4.ensures.is refl (omega arith)
+    let h0 = overlay_nothing _ 12 in
+    let h1 = put_behind _ _ _ _ bytes32 12 12 _ _ h0 a1.put32.ensures a1.before.begin.ensures.is refl (omega arith) in
+    let h2 = put_behind _ _ _ _ bytes32 12 16 _ _ h1 a2.put322.ensures a2.before.begin2.ensures.is refl (omega arith) in
+    let h3 = put_behind _ _ _ _ bytes32 12 20 _ _ h2 a3.put323.ensures a3.before.begin3.ensures.is refl (omega arith) in
+    put_behind _ _ _ _ bytes32 12 24 _ _ h3 a4.put324.ensures a4.before.begin4.ensures.is refl (omega arith)
 
 pub put-offsets-spec : {M : Type 1} → statement M
 put-offsets-spec =

@@ -1,7 +1,7 @@
 use borrow.Author.Rules.{rules}
 use mathlib.Core.Path.{◌≡◌}
 use native.Mathlib.Omega.{arith}
-use Rattle.writer.proofs.Sections.{section-variables, section-operators, section-terms}
+use Rattle.writer.proofs.Sections.{section_variables, section_operators, section_terms}
 use Rattle.writer.proofs.section.Statement.{statement}
 use Rattle.writer.proofs.section.Tie as tie
 
@@ -21,7 +21,7 @@ returns : tie.Need-returns
 returns c =
     let n = c.before in
     let at = n.before in
-    rw (c.part.ensures, n.variables.ensures.is, at.variables-at.ensures.is, at.before.if1.true) (section-variables _ at.before.before.before.requires.0)
+    rw (c.part.ensures, n.variables.ensures.is, at.variables-at.ensures.is, at.before.if1.true) (section_variables _ at.before.before.before.requires.0)
 
 operators-at-requires : tie.Need-operators-at-requires
 operators-at-requires c κs = search rules
@@ -39,7 +39,7 @@ returns-2 : tie.Need-returns-2
 returns-2 c =
     let n = c.before in
     let at = n.before in
-    rw (c.part2.ensures, n.operators.ensures.is, at.operators-at.ensures.is, at.before.if2.true) (section-operators _ at.before.before.before.before.requires.0)
+    rw (c.part2.ensures, n.operators.ensures.is, at.operators-at.ensures.is, at.before.if2.true) (section_operators _ at.before.before.before.before.requires.0)
 
 terms-at-requires : tie.Need-terms-at-requires
 terms-at-requires c κs = search rules
@@ -59,7 +59,7 @@ returns-3 c =
     let at = n.before in
     let s = at.before.before.before.before in
     let last : s.args.k ≡ 2 = omega arith in
-    rw (c.part3.ensures, n.terms.ensures.is, at.terms-at.ensures.is, last) (section-terms _ s.requires.0)
+    rw (c.part3.ensures, n.terms.ensures.is, at.terms-at.ensures.is, last) (section_terms _ s.requires.0)
 
 pub section-spec : {M : Type 1} → statement M
 section-spec =

@@ -6,9 +6,9 @@ use native.Mathlib.Omega.{arith}
 use lib.ListN.{length}
 use borrow.Author.Rules.{rules}
 use Rattle.task.specs.Check.{accepted}
-use Rattle.task_check.proofs.Laws.{told-accepted, told-refused}
-use Rattle.writer.specs.Canonical.{begin, sectionCount}
-use Rattle.writer.proofs.Writing.{write-unread, write-short, header-room, write-whole}
+use Rattle.task_check.proofs.Laws.{told_accepted, told_refused}
+use Rattle.writer.specs.Canonical.{begin, section_count}
+use Rattle.writer.proofs.Writing.{write_unread, write_short, header_room, write_whole}
 use Rattle.writer.proofs.write.Statement.{statement}
 use Rattle.writer.proofs.write.Tie as tie
 
@@ -23,26 +23,26 @@ enum_told c = search rules
 
 -- the file is accepted, where the answer is not a refusal
 passes : (c : tie.After-enum-told) → accepted c.before.before.before.before.before.args.file.now ≡ true
-passes c = told-accepted _ _ c.before.before.check.ensures c.enum_told.given.1
+passes c = told_accepted _ _ c.before.before.check.ensures c.enum_told.given.1
 
 begin-requires : tie.Need-begin-requires
 begin-requires c κs = (passes c, omega arith)
 
 returns : tie.Need-returns
-returns c = write-short _ _ (passes c.before.before) (rw (← c.before.begin.ensures.is) c.if1.true)
+returns c = write_short _ _ (passes c.before.before) (rw (← c.before.begin.ensures.is) c.if1.true)
 
 -- there is room for the file
-room : (c : tie.Else1) → begin c.before.before.before.before.before.before.before.args.file.now sectionCount ≤ length c.before.before.before.before.before.before.before.args.out.now
+room : (c : tie.Else1) → begin c.before.before.before.before.before.before.before.args.file.now section_count ≤ length c.before.before.before.before.before.before.before.args.out.now
 room c = rw (← c.before.begin.ensures.is) c.if1.false
 
 put-counts-requires : tie.Need-put-counts-requires
-put-counts-requires c κs = header-room _ _ (room c.before)
+put-counts-requires c κs = header_room _ _ (room c.before)
 
 put-offsets-requires : tie.Need-put-offsets-requires
 put-offsets-requires c κs =
     let counts = c.before.before.before in
     let else = counts.before.before in
-    (passes else.before.before, rw counts.put-counts.auto.1.0 (header-room _ _ (room else)))
+    (passes else.before.before, rw counts.put-counts.auto.1.0 (header_room _ _ (room else)))
 
 put-sections-requires : tie.Need-put-sections-requires
 put-sections-requires c κs =
@@ -53,8 +53,8 @@ put-sections-requires c κs =
 
 returns-2 : tie.Need-returns-2
 returns-2 c =
-    let told = told-refused _ _ c.before.before.before.check.ensures _ _ c.before.number.given.1 in
-    write-unread _ _ _ _ told.0 told.1
+    let told = told_refused _ _ c.before.before.before.check.ensures _ _ c.before.number.given.1 in
+    write_unread _ _ _ _ told.0 told.1
 
 same_length : tie.Need-same-length
 same_length c = search rules
@@ -65,7 +65,7 @@ returns-3 c =
     let offsets = sections.before.before.before.before in
     let counts = offsets.before.before.before.before in
     let else = counts.before.before in
-    write-whole _ _ _ _ (passes else.before.before) else.before.begin.ensures.is else.if1.false (rw (sections.put-sections.ensures, offsets.put-offsets.ensures, counts.put-counts.ensures))
+    write_whole _ _ _ _ (passes else.before.before) else.before.begin.ensures.is else.if1.false (rw (sections.put-sections.ensures, offsets.put-offsets.ensures, counts.put-counts.ensures))
 
 pub write_spec : {M : Type 1} → statement M
 write_spec =

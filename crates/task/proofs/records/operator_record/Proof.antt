@@ -1,5 +1,5 @@
 use borrow.Author.Rules.{rules}
-use Rattle.task.specs.Format.{operatorRecord}
+use Rattle.task.specs.Format.{operator_record}
 use Rattle.task.proofs.records.operator_record.Statement.{statement}
 use Rattle.task.proofs.records.operator_record.Tie as tie
 
@@ -16,7 +16,7 @@ part-requires : tie.Need-part-requires
 part-requires c κs = search rules
 
 returns : tie.Need-returns
-unfolding operatorRecord
+unfolding operator_record
 returns c = cc
 
 pub operator-record-spec : {M : Type 1} → statement M

@@ -1,5 +1,5 @@
 use borrow.Author.Rules.{rules}
-use Rattle.task.specs.Format.{termRecord}
+use Rattle.task.specs.Format.{term_record}
 use Rattle.task.proofs.records.term_record.Statement.{statement}
 use Rattle.task.proofs.records.term_record.Tie as tie
 
@@ -16,7 +16,7 @@ part-requires : tie.Need-part-requires
 part-requires c κs = search rules
 
 returns : tie.Need-returns
-unfolding termRecord
+unfolding term_record
 returns c = cc
 
 pub term-record-spec : {M : Type 1} → statement M

@@ -1,5 +1,5 @@
 use borrow.Author.Rules.{rules}
-use Rattle.task.specs.Format.{variableRecord}
+use Rattle.task.specs.Format.{variable_record}
 use Rattle.task.proofs.records.variable_record.Statement.{statement}
 use Rattle.task.proofs.records.variable_record.Tie as tie
 
@@ -16,7 +16,7 @@ part-requires : tie.Need-part-requires
 part-requires c κs = search rules
 
 returns : tie.Need-returns
-unfolding variableRecord
+unfolding variable_record
 returns c = cc
 
 pub variable-record-spec : {M : Type 1} → statement M

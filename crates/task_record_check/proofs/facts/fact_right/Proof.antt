@@ -1,5 +1,5 @@
 use borrow.Author.Rules.{rules}
-use Rattle.task.specs.Check.{factRight}
+use Rattle.task.specs.Check.{fact_right}
 use Rattle.planning.proofs.Guards.{tests}
 use Rattle.task_record_check.proofs.facts.fact_right.Statement.{statement}
 use Rattle.task_record_check.proofs.facts.fact_right.Tie as tie
@@ -11,11 +11,11 @@ unused-right-requires : tie.Need-unused-right-requires
 unused-right-requires c κs = search rules
 
 returns : tie.Need-returns
-unfolding factRight
+unfolding fact_right
 returns c = search tests
 
 returns-2 : tie.Need-returns-2
-unfolding factRight
+unfolding fact_right
 returns-2 c = search tests
 
 pub fact-right-spec : {M : Type 1} → statement M

@@ -19,7 +19,7 @@ returns : tie.Need-returns
 unfolding has_value
 returns c =
     let v = c.before.fact-variable.ensures.is in
-    ap₂ ltb c.before.before.fact-value.ensures.is (c.size.ensures.is ∙ ap (size _) v)
+    ap₂ ltb c.before.before.fact_value_lem.ensures.is (c.size.ensures.is ∙ ap (size _) v)
 
 pub has-value-spec : {M : Type 1} → statement M
 has-value-spec =

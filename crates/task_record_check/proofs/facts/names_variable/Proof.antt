@@ -1,5 +1,5 @@
 use borrow.Author.Rules.{rules}
-use Rattle.task.specs.Check.{namesVariable}
+use Rattle.task.specs.Check.{names_variable}
 use Rattle.planning.proofs.Guards.{tests}
 use Rattle.task_record_check.proofs.facts.names_variable.Statement.{statement}
 use Rattle.task_record_check.proofs.facts.names_variable.Tie as tie
@@ -11,7 +11,7 @@ variables-requires : tie.Need-variables-requires
 variables-requires c κs = search rules
 
 returns : tie.Need-returns
-unfolding namesVariable
+unfolding names_variable
 returns c = search tests
 
 pub names-variable-spec : {M : Type 1} → statement M

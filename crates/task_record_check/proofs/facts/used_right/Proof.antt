@@ -1,5 +1,5 @@
 use borrow.Author.Rules.{rules}
-use Rattle.task.specs.Check.{usedRight}
+use Rattle.task.specs.Check.{used_right}
 use Rattle.planning.proofs.Guards.{tests}
 use Rattle.task_record_check.proofs.facts.used_right.Statement.{statement}
 use Rattle.task_record_check.proofs.facts.used_right.Tie as tie
@@ -14,15 +14,15 @@ rises-requires : tie.Need-rises-requires
 rises-requires c κs = search rules
 
 returns : tie.Need-returns
-unfolding usedRight
+unfolding used_right
 returns c = search tests
 
 returns-2 : tie.Need-returns-2
-unfolding usedRight
+unfolding used_right
 returns-2 c = search tests
 
 returns-3 : tie.Need-returns-3
-unfolding usedRight
+unfolding used_right
 returns-3 c = search tests
 
 pub used-right-spec : {M : Type 1} → statement M

@@ -1,5 +1,5 @@
 use borrow.Author.Rules.{rules}
-use Rattle.task_states.proofs.StateLaws.{put-out}
+use Rattle.task_states.proofs.StateLaws.{put_out}
 use Rattle.task_states.proofs.state.put.Statement.{statement}
 use Rattle.task_states.proofs.state.put.Tie as tie
 
@@ -16,7 +16,7 @@ returns : tie.Need-returns
 returns c = search rules
 
 returns-2 : tie.Need-returns-2
-returns-2 c = put-out _ _ _ c.if1.false
+returns-2 c = put_out _ _ _ c.if1.false
 
 pub put_spec : {M : Type 1} → statement M
 put_spec = tie.close (tie.spec cast-state slice-write-state same_length returns returns-2)

@@ -3,14 +3,14 @@ use Prim.Native.Nat.{◌-◌, ◌≤◌}
 use mathlib.Core.Path.{◌≡◌, refl}
 use native.Mathlib.Omega.{arith}
 use lib.ListN.{length, take, length-set}
-use Rattle.task.specs.Format.{startValue}
+use Rattle.task.specs.Format.{start_value}
 use Rattle.planning.specs.Scan.{tab}
-use Rattle.task_states.proofs.StateLaws.{start-more, start-done}
+use Rattle.task_states.proofs.StateLaws.{start_more, start_done}
 use Rattle.task_states.proofs.state.start.Statement.{statement}
 use Rattle.task_states.proofs.state.start.Tie as tie
 
 abbrev invariant-loop : tie.invariant-loop
-invariant-loop file state₀ v₀ state v = (take v state ≡ tab (startValue file) v 0) × ((v ≤ length state) × (length state ≡ length state₀))
+invariant-loop file state₀ v₀ state v = (take v state ≡ tab (start_value file) v 0) × ((v ≤ length state) × (length state ≡ length state₀))
 
 abbrev decreases-loop : tie.decreases-loop
 decreases-loop file state₀ v₀ state v = length state - v
@@ -36,7 +36,7 @@ loop-less c = simp length-set (omega arith)
 
 loop-again : tie.Need-loop-preserved invariant-loop decreases-loop
 loop-again c = let l = c.before.before in (
-  start-more _ _ _ _ c.before.loop-test.true l.loop.invariant.0 c.start-value.ensures.is,
+  start_more _ _ _ _ c.before.loop-test.true l.loop.invariant.0 c.start-value.ensures.is,
   (simp length-set (omega arith), simp length-set l.loop.invariant.1.1),
 )
 
@@ -44,7 +44,7 @@ same_length : tie.Need-same-length invariant-loop decreases-loop
 same_length c = c.before.loop.invariant.1.1
 
 returns : tie.Need-returns invariant-loop decreases-loop
-returns c = start-done _ _ _ _ c.loop-test.false (omega arith) c.before.loop.invariant.0
+returns c = start_done _ _ _ _ c.loop-test.false (omega arith) c.before.loop.invariant.0
 
 pub start_spec : {M : Type 1} → statement M
 start_spec =

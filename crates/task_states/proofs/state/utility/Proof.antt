@@ -4,7 +4,7 @@ use native.Mathlib.Omega.{arith}
 use borrow.Author.Rules.{rules}
 use Rattle.task.specs.Format.{terms}
 use Rattle.task.specs.Decode.{task_of}
-use Rattle.task_states.proofs.StateLaws.{SumTo, sum-none, sum_more, sum_done}
+use Rattle.task_states.proofs.StateLaws.{SumTo, sum_none, sum_more, sum_done}
 use Rattle.task_states.proofs.state.utility.Statement.{statement}
 use Rattle.task_states.proofs.state.utility.Tie as tie
 
@@ -18,7 +18,7 @@ terms-requires : tie.Need-terms-requires invariant-loop decreases-loop
 terms-requires c κs = search rules
 
 loop-holds : tie.Need-loop-init invariant-loop decreases-loop
-loop-holds c = (sum-none _ _ _, (omega arith, omega arith))
+loop-holds c = (sum_none _ _ _, (omega arith, omega arith))
 
 gain-requires : tie.Need-gain-requires invariant-loop decreases-loop
 gain-requires c κs = omega arith
