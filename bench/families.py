@@ -8,9 +8,8 @@ import random
 import sys
 from pathlib import Path
 
-sys.path.insert(0, str(Path(__file__).resolve().parent.parent / "bindings" / "python"))
-from laurelsnap import Operator, Task, Term, Variable  # noqa: E402
-from laurelsnap.bpt import decode, encode  # noqa: E402
+sys.path.insert(0, str(Path(__file__).resolve().parent.parent / "tools"))
+from bpt_format import Operator, Task, Term, Variable, decode, encode  # noqa: E402
 
 
 class Builder:

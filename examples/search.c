@@ -1,7 +1,7 @@
 /*
  * Plans a task file from C by the search, in lists as long as they may be: prints the listing that osp-list prints, or the refusal.
  *
- *   cc -O2 -Iinclude examples/search.c target/staticlib/liblaurelsnap.a -o search
+ *   cc -O2 -Iinclude examples/search.c target/staticlib/libsupervisor.a -o search
  *   ./search examples/calibration.bpt
  */
 #include "read_task.h"

@@ -12,7 +12,7 @@
  * question where a state stands: what it costs at least, and in how many steps; and a second engine, which finds the same plan by listing
  * states.
  *
- * Link with the static library target/staticlib/liblaurelsnap.a, which `tools/build laurelsnap` proves and writes.
+ * Link with the static library target/staticlib/libsupervisor.a, which `tools/build supervisor` proves and writes.
  *
  * Arguments
  *   A byte string is given by the address of its first byte and its length. The address is never null, not even where the

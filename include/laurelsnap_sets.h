@@ -1,7 +1,7 @@
 /*
  * The operations on sets of states, for the tests and the benchmark in C.
  *
- * Link with the static library that `rt staticlib diagram_bench` writes, target/staticlib/libdiagram_bench.a.
+ * Link with the static library that `tools/build diagram_bench` writes, target/staticlib/libdiagram_bench.a.
  *
  * A set is a name: 0 the empty set, 1 the full one, k + 2 the entry k of the three node lists of equal length, of which `count` entries are
  * in use. heads, chain and memo are working lists of any lengths. Before the first operation the count is 0 and the memo is all zero (it is

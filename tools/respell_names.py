@@ -13,6 +13,7 @@ from pathlib import Path
 
 DEFINED = re.compile(r"(?m)^[ ]*(?:(?:abbrev|unfoldable|opaque|pub|constructor|data|record|ruleset|private) )*([^\s:{}()\[\];=|,.\"λ]+)(?=(?: [^=:\n]*)? :[ \n])")
 CONSTRUCTED = re.compile(r"(?m)^[ ]*(?:pub )?constructor ([^\s:{}();=|,.]+)")
+IMPORT = re.compile(r"(?m)^(?:pub |ghost )*use .*\{.*$")
 TOKEN = re.compile(r"[^\s{}()\[\];,.:=|\"`/@?!&*+<>~^#$%\\]+")
 LOCAL = {  # names bound inside one file that would hide a definition's new name
     "crates/search_theory/proofs/Refusals.antt": {"met_at": "met_here"},
@@ -35,6 +36,8 @@ def own_names(root):
         text = re.sub(r"(?m)^[ ]*--.*$", "", path.read_text())
         names.update(DEFINED.findall(text))
         names.update(CONSTRUCTED.findall(text))
+    for path in sorted(root.glob("crates/*/**/*.antt")) + sorted(root.glob("crates/*/src/**/*.rt")):
+        names.update(n for line in IMPORT.findall(path.read_text()) for n in re.findall(r" as ([a-z]\w*)", line))
     return names
 
 

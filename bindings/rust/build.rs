@@ -1,4 +1,4 @@
-//! Links the static library that `tools/build laurelsnap` proves and writes; LAURELSNAP_LIB names another folder that has it.
+//! Links the static library that `tools/build supervisor` proves and writes; LAURELSNAP_LIB names another folder that has it.
 
 use std::path::PathBuf;
 
@@ -8,11 +8,11 @@ fn main() {
         || PathBuf::from(std::env::var_os("CARGO_MANIFEST_DIR").expect("cargo sets it")).join("../../target/staticlib"),
         PathBuf::from,
     );
-    let library = folder.join("liblaurelsnap.a");
+    let library = folder.join("libsupervisor.a");
     println!("cargo:rerun-if-changed={}", library.display());
     if !library.exists() {
-        panic!("{} is missing; `tools/build laurelsnap` proves and writes it", library.display());
+        panic!("{} is missing; `tools/build supervisor` proves and writes it", library.display());
     }
     println!("cargo:rustc-link-search=native={}", folder.display());
-    println!("cargo:rustc-link-lib=static=laurelsnap");
+    println!("cargo:rustc-link-lib=static=supervisor");
 }

@@ -8,10 +8,8 @@ import unittest
 from pathlib import Path
 
 TOOLS = Path(__file__).resolve().parent.parent
-sys.path.insert(0, str(TOOLS.parent / "bindings" / "python"))
-from laurelsnap import Operator, Refused, Task, Term, TextErrors, Variable, bpt, parse, write_text  # noqa: E402
-from laurelsnap.listing import explain  # noqa: E402
-from laurelsnap.task import bits  # noqa: E402
+sys.path.insert(0, str(TOOLS))
+import bpt_format as bpt  # noqa: E402
 
 P = """
 # document 01's case P
@@ -39,15 +37,15 @@ steps 1
 def random_task(dice):
     """A valid task of random size."""
     sizes = [dice.choice((2, 2, 3, 4, 5, 16)) for _ in range(dice.randint(1, 10))]
-    variables = [Variable(f"v{k}", [str(x) for x in range(d)], dice.randrange(d)) for k, d in enumerate(sizes)]
+    variables = [bpt.Variable(f"v{k}", [str(x) for x in range(d)], dice.randrange(d)) for k, d in enumerate(sizes)]
 
     def facts(most):
         chosen = sorted(dice.sample(range(len(sizes)), dice.randint(0, min(most, len(sizes)))))
         return [(v, dice.randrange(sizes[v])) for v in chosen]
 
-    operators = [Operator(f"o{k}", dice.choice((0, dice.randint(1, 4095))), facts(8), facts(8)) for k in range(dice.randint(0, 9))]
-    terms = [Term(f"t{k}", dice.randint(0, 65535), facts(4)) for k in range(dice.randint(0, 9))]
-    return Task(dice.randint(0, 4095), variables, operators, terms)
+    operators = [bpt.Operator(f"o{k}", dice.choice((0, dice.randint(1, 4095))), facts(8), facts(8)) for k in range(dice.randint(0, 9))]
+    terms = [bpt.Term(f"t{k}", dice.randint(0, 65535), facts(4)) for k in range(dice.randint(0, 9))]
+    return bpt.Task(dice.randint(0, 4095), variables, operators, terms)
 
 
 def other_file(dice, file):
@@ -71,8 +69,8 @@ def other_file(dice, file):
 
 class Text(unittest.TestCase):
     def faults(self, text):
-        with self.assertRaises(TextErrors) as caught:
-            parse(text)
+        with self.assertRaises(bpt.TextErrors) as caught:
+            bpt.parse(text)
         return caught.exception.faults
 
     def one(self, line, *words):
@@ -84,22 +82,22 @@ class Text(unittest.TestCase):
             self.assertIn(word, faults[0][1])
 
     def test_reads_p(self):
-        task = parse(P)
+        task = bpt.parse(P)
         self.assertEqual(task.bound, 1)
         self.assertEqual([o.cost for o in task.operators], [1, 1, 1])
         self.assertEqual(task.operators[2].pre, [(0, 1), (1, 0)])
         self.assertEqual(task.operators[2].eff, [(1, 1)])
-        self.assertEqual(task.terms[1], Term("both", 1, [(0, 1), (1, 1)]))
+        self.assertEqual(task.terms[1], bpt.Term("both", 1, [(0, 1), (1, 1)]))
 
     def test_a_move_may_cost_nothing(self):
-        task = parse(P.replace("operator b cost 1", "operator b cost 0"))
+        task = bpt.parse(P.replace("operator b cost 1", "operator b cost 0"))
         self.assertEqual([o.cost for o in bpt.decode(bpt.encode(task)).operators], [1, 0, 1])
         free = LISTING.replace("cost 1 of 1", "cost 0 of 1").replace("time 0 1 0", "time 0 0 1").replace("0 1 1 1", "0 1 0 0")
-        self.assertIn("0 1 0 0  b\n", explain(task, free))
+        self.assertIn("0 1 0 0  b\n", bpt.explain(task, free))
 
     def test_statements_in_any_order(self):
         turned = "\n".join(reversed(P.splitlines()))
-        self.assertEqual({v.name for v in parse(turned).variables}, {"p", "q"})
+        self.assertEqual({v.name for v in bpt.parse(turned).variables}, {"p", "q"})
 
     def test_faulty_lines_are_named(self):
         self.one("move x", "'move'")
@@ -146,18 +144,18 @@ class Text(unittest.TestCase):
 
 class File(unittest.TestCase):
     def refused(self, file, number, value=0):
-        with self.assertRaises(Refused) as caught:
+        with self.assertRaises(bpt.Refused) as caught:
             bpt.decode(bytes(file))
         self.assertEqual((caught.exception.number, caught.exception.value), (number, value), caught.exception)
 
     def changed(self, *changes):
-        file = bytearray(bpt.encode(parse(P)))
+        file = bytearray(bpt.encode(bpt.parse(P)))
         for at, byte in changes:
             file[at] = byte
         return file
 
     def test_bytes_of_p(self):
-        file = bpt.encode(parse(P))
+        file = bpt.encode(bpt.parse(P))
         self.assertEqual(len(file), 28 + 2 * 2 + 3 * 36 + 2 * 12)
         self.assertEqual(file[:28].hex(), "42505431" "0200" "0300" "0200" "0100" "1c000000" "20000000" "8c000000" "a4000000")
         self.assertEqual(file[28:32].hex(), "02000200")
@@ -192,13 +190,13 @@ class File(unittest.TestCase):
 
     def test_bits(self):
         def wide(sizes):
-            return bpt.encode(Task(0, [Variable("v", ["x"] * d, 0) for d in sizes]))
+            return bpt.encode(bpt.Task(0, [bpt.Variable("v", ["x"] * d, 0) for d in sizes]))
 
-        self.assertEqual(bits(bpt.decode(wide([16] * 12))), 48)
+        self.assertEqual(bpt.bits(bpt.decode(wide([16] * 12))), 48)
         self.refused(wide([16] * 12 + [2]), 8)
 
     def test_empty_sections_may_lie_anywhere(self):
-        file = bytearray(bpt.encode(Task(0, [Variable("v", ["0", "1"], 0)])))
+        file = bytearray(bpt.encode(bpt.Task(0, [bpt.Variable("v", ["0", "1"], 0)])))
         file[16], file[20] = 28, 30
         bpt.decode(bytes(file))
         file[20] = 31
@@ -209,7 +207,7 @@ class File(unittest.TestCase):
         for _ in range(300):
             task = random_task(dice)
             self.assertEqual(bpt.decode(bpt.encode(task)), task)
-            self.assertEqual(parse(write_text(task)), task)
+            self.assertEqual(bpt.parse(bpt.write_text(task)), task)
 
     def test_damaged_files_are_refused_or_read(self):
         dice = random.Random(2)
@@ -220,7 +218,7 @@ class File(unittest.TestCase):
             try:
                 task = bpt.decode(bytes(file[:dice.choice((len(file), dice.randrange(len(file) + 1)))]))
                 self.assertEqual(bpt.decode(bpt.encode(task)), task)
-            except Refused as refused:
+            except bpt.Refused as refused:
                 self.assertIn(refused.number, range(1, 11))
 
 
@@ -255,9 +253,9 @@ class Canonical(unittest.TestCase):
         self.assertEqual(bpt.canonical(bytes.fromhex(other)).hex(), no_operators.format("1c000000" "1e000000" "1e000000"))
 
     def test_refused(self):
-        file = bytearray(bpt.encode(parse(P)))
+        file = bytearray(bpt.encode(bpt.parse(P)))
         file[32 + 36 + 1] = 16
-        with self.assertRaises(Refused) as caught:
+        with self.assertRaises(bpt.Refused) as caught:
             bpt.canonical(bytes(file))
         self.assertEqual((caught.exception.number, caught.exception.value), (9, 1))
 
@@ -281,7 +279,7 @@ class Canonical(unittest.TestCase):
         ]:
             with self.subTest(new):
                 self.assertIn(old, P)
-                one, other = parse(P), parse(P.replace(old, new))
+                one, other = bpt.parse(P), bpt.parse(P.replace(old, new))
                 self.assertEqual(bpt.difference(one, other), told)
                 self.assertEqual(bpt.encode(one) == bpt.encode(other), told is None)
 
@@ -324,7 +322,7 @@ class Command(unittest.TestCase):
         self.assertEqual(self.bpt("encode", ".").returncode, 2)
         self.assertEqual(self.bpt("decode", "missing.bpt").returncode, 2)
         (self.folder / "noise.task").write_bytes(b"bound 1\n\xff\n")
-        self.assertIn("noise.task:2: this is neither a text in UTF-8 nor a BPT1 file", self.bpt("encode", "noise.task").stderr)
+        self.assertIn("noise.task:2: this is not text", self.bpt("encode", "noise.task").stderr)
         self.assertEqual(self.bpt("walk").returncode, 2)
 
     def test_canonical(self):
@@ -380,8 +378,8 @@ class Command(unittest.TestCase):
             (("p.bpt", "bad.bpt"), 1, "bad.bpt: refused 1 0: "),
             (("bad.task", "p.bpt"), 1, "bad.task:1: "),
             (("p.bpt", "missing.bpt"), 2, "missing.bpt: "),
-            (("p.bpt",), 2, "bpt same: the following arguments are required"),
-            (("p.bpt", "p.bpt", "p.bpt"), 2, "bpt: unrecognized arguments"),
+            (("p.bpt",), 2, "Tasks for the planner"),
+            (("p.bpt", "p.bpt", "p.bpt"), 2, "Tasks for the planner"),
         ]:
             with self.subTest(words):
                 stopped = self.bpt("same", *words)
@@ -404,8 +402,8 @@ class Command(unittest.TestCase):
 class Listings(unittest.TestCase):
     def wrong(self, listing, line, cause):
         """The first fault of the listing is at this line (0: the whole), and its cause begins so."""
-        with self.subTest(listing), self.assertRaises(TextErrors) as caught:
-            explain(parse(P), listing)
+        with self.subTest(listing), self.assertRaises(bpt.TextErrors) as caught:
+            bpt.explain(bpt.parse(P), listing)
         (number, told), = caught.exception.faults
         self.assertEqual((number, told[:len(cause)]), (line, cause))
 

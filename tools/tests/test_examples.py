@@ -6,9 +6,8 @@ from pathlib import Path
 
 TOOLS = Path(__file__).resolve().parent.parent
 EXAMPLES = TOOLS.parent / "examples"
-sys.path.insert(0, str(TOOLS.parent / "bindings" / "python"))
-from laurelsnap import bpt, parse  # noqa: E402
-from laurelsnap.listing import explain  # noqa: E402
+sys.path.insert(0, str(TOOLS))
+import bpt_format as bpt  # noqa: E402
 
 
 class Examples(unittest.TestCase):
@@ -18,12 +17,12 @@ class Examples(unittest.TestCase):
         for text in texts:
             with self.subTest(text.name):
                 file = text.with_suffix(".bpt").read_bytes()
-                self.assertEqual(bpt.encode(parse(text.read_text())), file)
+                self.assertEqual(bpt.encode(bpt.parse(text.read_text())), file)
                 self.assertEqual(bpt.canonical(file), file)
 
     def test_the_stored_listing_is_whole(self):
-        task = parse((EXAMPLES / "calibration.task").read_text())
-        named = explain(task, (EXAMPLES / "calibration.listing").read_text())
+        task = bpt.parse((EXAMPLES / "calibration.task").read_text())
+        named = bpt.explain(task, (EXAMPLES / "calibration.listing").read_text())
         self.assertIn("time 2 2 0\n", named)
         self.assertIn("10 5 0 12  close-shutter\n", named)
         self.assertIn("12 18 1 14  reconcile\n", named)

@@ -94,7 +94,7 @@ class Repeat(Faults):
         self.one(HEAD + "for x in 1..300 operator o{x} cost 1: ->\n", 3, "this is operator 257 of 300, at most 256 are allowed")
 
     def test_five_like_panels(self):
-        text = (TOOLS.parent / "examples" / "ward.task").read_text()
+        text = (TOOLS.parent / "examples" / "repeats" / "ward.task").read_text()
         task = parse(text)
         self.assertLess(text.count("\n"), 50)
         self.assertEqual((len(task.variables), len(task.operators), len(task.terms)), (20, 61, 21))
@@ -173,7 +173,7 @@ class Command(unittest.TestCase):
         self.folder = Path(folder.name)
 
     def bpt(self, *words, given=b""):
-        return subprocess.run([sys.executable, TOOLS / "bpt", *words], cwd=self.folder, input=given, capture_output=True, check=False)
+        return subprocess.run([sys.executable, TOOLS / "bpt-new", *words], cwd=self.folder, input=given, capture_output=True, check=False)
 
     def test_standard_input_and_output(self):
         text = HEAD.encode()
@@ -226,7 +226,7 @@ class Command(unittest.TestCase):
         if Path("/dev/full").exists():
             with open("/dev/full", "wb") as full:
                 for words in (("help",), ("check", "-"), ("encode", "-")):
-                    done = subprocess.run([sys.executable, TOOLS / "bpt", *words], input=HEAD.encode(), stdout=full, stderr=subprocess.PIPE, check=False)
+                    done = subprocess.run([sys.executable, TOOLS / "bpt-new", *words], input=HEAD.encode(), stdout=full, stderr=subprocess.PIPE, check=False)
                     self.assertEqual((done.returncode, done.stderr), (2, b"standard output: No space left on device\n"), words)
 
 

@@ -34,7 +34,7 @@ OVERVIEW = """Plans the shifts of a calibration stand: the greatest utility with
   laurelsnap ask FILE FACT...        how soon these facts can hold together, and by which steps
   laurelsnap check FILE              whether a text or file is accepted, and what in it is hardly meant
 
-FILE is a task's text or its BPT1 file, '-' standard input; `laurelsnap COMMAND --help` tells the options, `tools/bpt help` describes the text.
+FILE is a task's text or its BPT1 file, '-' standard input; `laurelsnap COMMAND --help` tells the options, `tools/bpt-new help` describes the text.
 Times are minutes and seconds; a unit is ten seconds."""
 
 CAUSES = {Refusal.UTILITY_ENTRIES: "the utility diagram needs more than {room:,} entries",
@@ -52,8 +52,8 @@ def built():
     root = library.root()
     if os.environ.get("LAURELSNAP_LIB") or root is None or not (root / "tools" / "build").exists():
         return
-    if subprocess.run([root / "tools" / "stale", library.folder() / "liblaurelsnap.a"], check=False).returncode == 0:
-        if subprocess.run([root / "tools" / "build", "laurelsnap"], check=False).returncode:
+    if subprocess.run([root / "tools" / "stale", library.folder() / "libsupervisor.a"], check=False).returncode == 0:
+        if subprocess.run([root / "tools" / "build", "supervisor"], check=False).returncode:
             raise Stop("the library is not there")
 
 

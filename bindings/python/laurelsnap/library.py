@@ -1,6 +1,6 @@
 """The library's functions, as include/laurelsnap.h declares them, and the lists that they are lent.
 
-The shared library is made from the static one, liblaurelsnap.a, which `tools/build laurelsnap` proves and writes. Both stand in the folder that
+The shared library is made from the static one, libsupervisor.a, which `tools/build supervisor` proves and writes. Both stand in the folder that
 LAURELSNAP_LIB names, or in target/staticlib of the repository that this file is a part of.
 """
 
@@ -50,17 +50,17 @@ def folder():
     """Where the library stands."""
     given = os.environ.get("LAURELSNAP_LIB")
     if not given and not root():
-        raise NoLibrary("LAURELSNAP_LIB does not name the folder that has liblaurelsnap.so or liblaurelsnap.a")
+        raise NoLibrary("LAURELSNAP_LIB does not name the folder that has liblaurelsnap.so or libsupervisor.a")
     return Path(given) if given else root() / "target" / "staticlib"
 
 
 def shared():
     """The shared library's path, made anew where the static one is newer."""
-    static, made = folder() / "liblaurelsnap.a", folder() / "liblaurelsnap.so"
+    static, made = folder() / "libsupervisor.a", folder() / "liblaurelsnap.so"
     if not static.exists():
         if made.exists():
             return made
-        raise NoLibrary(f"{static} is missing; `tools/build laurelsnap` proves and writes it, which takes minutes")
+        raise NoLibrary(f"{static} is missing; `tools/build supervisor` proves and writes it, which takes minutes")
     if made.exists() and made.stat().st_mtime_ns >= static.stat().st_mtime_ns:
         return made
     if not os.access(folder(), os.W_OK):

@@ -15,7 +15,7 @@ from laurelsnap.command import main  # noqa: E402
 
 EXAMPLES = ROOT / "examples"
 CALIBRATION = str(EXAMPLES / "calibration.task")
-WARD = str(EXAMPLES / "ward.task")
+WARD = str(EXAMPLES / "repeats" / "ward.task")
 CALIBRATION_FILE = (EXAMPLES / "calibration.bpt").read_bytes()
 P2 = (EXAMPLES / "p-2.bpt").read_bytes()
 REFERENCE = os.environ.get("REFERENCE")  # the reference planner's program

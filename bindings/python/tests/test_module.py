@@ -168,8 +168,8 @@ class Missing(Folder):
         return done.stderr
 
     def test_missing(self):
-        self.assertIn("liblaurelsnap.a is missing; `tools/build laurelsnap`", self.told(LAURELSNAP_LIB=str(self.folder)))
-        self.file(b"noise", "liblaurelsnap.a")
+        self.assertIn("libsupervisor.a is missing; `tools/build supervisor`", self.told(LAURELSNAP_LIB=str(self.folder)))
+        self.file(b"noise", "libsupervisor.a")
         self.assertIn("liblaurelsnap.so cannot be made", self.told(LAURELSNAP_LIB=str(self.folder)))
         self.assertIn("cannot be made: no-such-compiler: No such file", self.told(LAURELSNAP_LIB=str(self.folder), CC="no-such-compiler"))
         self.file(b"noise", "liblaurelsnap.so")

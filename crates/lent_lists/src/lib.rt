@@ -1,5 +1,7 @@
 // The tests of the lists that a caller lends: refusals 12 and 21. A number past a list's end is read as 0, so that each test has an
 // answer on any lists. Each goes once through what it reads.
+#![tactic(auto)]
+
 ghost use Rattle.std.specs.Prelude.{◌≡◌, ◌<◌, get_or};
 ghost use Rattle.lent_lists.specs.Lists.{lists_wrong, pairs_wrong, name_right, child_right, entry_right, entries_right, set_right, names_right, listed};
 

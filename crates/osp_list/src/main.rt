@@ -1,15 +1,20 @@
 // osp-list: reads a task file from standard input, searches for its best plan in lists of fixed lengths, and prints the listing or the
 // refusal.
+#![tactic(auto)]
+
 ghost use Rattle.std.specs.Prelude.{◌≤◌, length};
 ghost use Rattle.task.specs.Bytes.{Reads};
 ghost use Rattle.task.specs.Format.{cost};
 ghost use Rattle.record_lookup.specs.Lookup.{operator_part};
 ghost use Rattle.osp_list.specs.StepsFit.{StepsFit};
 
+use input::read_full;
 use record_lookup::operator;
 use search::search;
 use search_answer::{Listing, Searched};
 use shift_time::{Time, time_of};
+use std::io;
+use std::io::{Read, Write};
 use task::records::cost;
 
 // One byte more than a task file may have, so that a longer input is refused for its length.
@@ -27,20 +32,29 @@ const MEMO: usize = 24600;
 const STEPS: usize = 4096;
 
 // A line of a word and two numbers.
-fn print_pair(word: &[u8], a: u64, between: &[u8], b: u64) {
-    io::write_all(1, word);
-    io::print_decimal(1, a);
-    io::write_all(1, between);
-    io::print_decimal(1, b);
-    io::write_all(1, b"\n");
+fn print_pair<W: Write>(
+    out: &mut W,
+    word: &[u8],
+    a: u64,
+    between: &[u8],
+    b: u64,
+) -> io::Result<()> {
+    out.write_all(word)?;
+    write!(out, "{a}")?;
+    out.write_all(between)?;
+    writeln!(out, "{b}")
 }
 
 // A step's line: its number, operator, cost, and cost so far.
-fn print_step(step: usize, operator: u16, cost: usize, so_far: usize) {
-    io::print_decimal(1, step as u64);
-    io::write_all(1, b" ");
-    io::print_decimal(1, operator as u64);
-    print_pair(b" ", cost as u64, b" ", so_far as u64);
+fn print_step<W: Write>(
+    out: &mut W,
+    step: usize,
+    operator: u16,
+    cost: usize,
+    so_far: usize,
+) -> io::Result<()> {
+    write!(out, "{step} {operator}")?;
+    print_pair(out, b" ", cost as u64, b" ", so_far as u64)
 }
 
 // The cost of an operator of the file, from its record.
@@ -51,61 +65,77 @@ fn operator_cost(file: &[u8], o: u16) -> usize
 }
 
 // The lines of the first n steps of the plan.
-fn print_steps(file: &[u8], plan: &[u16], n: usize)
+fn print_steps<W: Write>(out: &mut W, file: &[u8], plan: &[u16], n: usize) -> io::Result<()>
     requires { (n ≤ length plan.now) × (n ≤ 4096) }
 {
     let mut so_far = 0;
-    let mut k = 0;
-    while k < n {
+    for k in 0..n {
         let o = plan[k];
         let cost = operator_cost(file, o);
         so_far += cost;
-        print_step(k, o, cost, so_far);
-        k += 1;
+        print_step(out, k, o, cost, so_far)?;
     }
+    Ok(())
 }
 
 // The line of the plan's time.
-fn print_time(time: Time) {
-    io::write_all(1, b"time ");
-    io::print_decimal(1, time.minutes as u64);
-    print_pair(b" ", time.units as u64, b" ", time.unused as u64);
+fn print_time<W: Write>(out: &mut W, time: Time) -> io::Result<()> {
+    let minutes = time.minutes;
+    write!(out, "time {minutes}")?;
+    print_pair(out, b" ", time.units as u64, b" ", time.unused as u64)
 }
 
 // The listing's figures.
-fn print_figures(found: Listing) {
+fn print_figures<W: Write>(out: &mut W, found: Listing) -> io::Result<()> {
     print_pair(
+        out,
         b"utility ",
         found.utility as u64,
         b" of ",
         found.ceiling as u64,
-    );
-    print_pair(b"cost ", found.cost as u64, b" of ", found.bound as u64);
-    print_time(time_of(found.cost, found.bound));
-    print_pair(b"nodes ", found.nodes as u64, b" ", found.entries as u64);
-    io::write_all(1, b"steps ");
-    io::print_decimal(1, found.steps as u64);
-    io::write_all(1, b"\n");
+    )?;
+    print_pair(
+        out,
+        b"cost ",
+        found.cost as u64,
+        b" of ",
+        found.bound as u64,
+    )?;
+    print_time(out, time_of(found.cost, found.bound))?;
+    print_pair(
+        out,
+        b"nodes ",
+        found.nodes as u64,
+        b" ",
+        found.entries as u64,
+    )?;
+    let steps = found.steps;
+    writeln!(out, "steps {steps}")
 }
 
 // The listing, or the refusal with its two numbers.
-fn print_answer(file: &[u8], plan: &[u16], answer: Searched)
+fn print_answer<W: Write>(
+    out: &mut W,
+    file: &[u8],
+    plan: &[u16],
+    answer: Searched,
+) -> io::Result<()>
     requires { StepsFit answer (length plan.now) × (length plan.now ≤ 4096) }
 {
     match answer {
         Searched::Refused { number, place } => {
-            print_pair(b"refused ", number as u64, b" ", place as u64);
+            print_pair(out, b"refused ", number as u64, b" ", place as u64)
         }
         Searched::Found(found) => {
             let steps = found.steps;
-            print_figures(found);
-            print_steps(file, plan, steps);
+            print_figures(out, found)?;
+            print_steps(out, file, plan, steps)
         }
     }
 }
 
 // Searches in lists of its own, and prints the answer.
-fn run(file: &[u8]) {
+fn run<W: Write>(out: &mut W, file: &[u8]) -> io::Result<()> {
     let mut costs = [0u32; PAIRS];
     let mut steps = [0u32; PAIRS];
     let mut sets = [0u32; PAIRS];
@@ -137,23 +167,21 @@ fn run(file: &[u8]) {
         &mut memo,
         &mut plan,
     );
-    print_answer(file, &plan, answer);
+    print_answer(out, file, &plan, answer)
 }
 
-// Whether standard input has ended: a read that failed, or that finds more, says that it has not.
-fn ended() -> bool {
+// Whether an input has ended: a read that failed, or that finds more, says that it has not.
+fn ended<R: Read>(input: &mut R) -> bool {
     let mut one = [0u8; 1];
-    libc::read(0, &mut one) == 0
+    matches!(input.read(&mut one), Ok(0))
 }
 
-fn main() {
+fn main(rt: HostRuntime) -> io::Result<()> {
+    let mut input = rt.reader();
     let mut buffer = [0u8; MOST_BYTES];
-    let n = io::read_full(0, &mut buffer);
-    if n < MOST_BYTES {
-        if !ended() {
-            io::write_all(2, b"osp-list: standard input cannot be read\n");
-            return;
-        }
+    let n = read_full(&mut input, &mut buffer);
+    if n < MOST_BYTES && !ended(&mut input) {
+        return eprintln!(rt; "osp-list: standard input cannot be read");
     }
-    run(&buffer[..n]);
+    run(&mut io::writer(&rt), &buffer[..n])
 }

@@ -1,5 +1,7 @@
 // The question about one state: its place, the least cost at which it is reached and the fewest steps at that cost, by the lists that an
 // earlier search left.
+#![tactic(auto)]
+
 ghost use Rattle.std.specs.Prelude.{◌≡◌, ◌<◌, true};
 ghost use Rattle.diagrams.specs.Tree.{trees};
 ghost use Rattle.task.specs.Format.{variables};
@@ -18,7 +20,7 @@ use task_check::{Checked, check};
 use task_states::cubes::state_word;
 
 // What the question answers (specs/Answers.antt has the documents' number and values for each case).
-#[derive(Drop)]
+#[derive(Clone, Copy)]
 pub enum Answered {
     // The refusal's number, and the record that it is about, or 0.
     Refused { number: u8, place: u16 },

@@ -1,48 +1,41 @@
 // The question's cases, one to a line of the input: its name, then a digit for each value of the state, each cost, steps, set and wanted set
 // of the lists of pairs, and each bit, low child and high child of the node lists, then the count of entries and the number of pairs. It
 // asks them of the stand's P with the bound 2, and prints each name with the answer.
+#![tactic(auto)]
+
 ghost use Rattle.std.specs.Prelude.{◌+◌, ◌≤◌, ◌≡◌, length};
 
+use input::read_full;
 use question::{Answered, question};
+use std::io;
+use std::io::Write;
 use task::bytes::byte;
 
 // The most numbers of a list.
 const WIDEST: usize = 8;
 
+// The most bytes that are read.
+const MOST_BYTES: usize = 4096;
+
 // An answer, to the line's end.
-fn show(answer: Answered) {
+fn show<W: Write>(out: &mut W, answer: Answered) -> io::Result<()> {
     match answer {
-        Answered::Refused { number, place } => {
-            io::write_all(1, b": refused ");
-            io::print_decimal(1, number as u64);
-            io::write_all(1, b" ");
-            io::print_decimal(1, place as u64);
-        }
-        Answered::Reached { cost, steps } => {
-            io::write_all(1, b": cost ");
-            io::print_decimal(1, cost as u64);
-            io::write_all(1, b" steps ");
-            io::print_decimal(1, steps as u64);
-        }
-        Answered::NotReached => {
-            io::write_all(1, b": not reached");
-        }
+        Answered::Refused { number, place } => writeln!(out, ": refused {number} {place}"),
+        Answered::Reached { cost, steps } => writeln!(out, ": cost {cost} steps {steps}"),
+        Answered::NotReached => writeln!(out, ": not reached"),
     }
-    io::write_all(1, b"\n");
 }
 
 // Where the name of a case ends: at the colon.
 fn colon(line: &[u8]) -> usize
     ensures { result ≤ length line.now }
 {
-    let mut i = 0;
-    while i < line.len() {
-        if line[i] == b':' {
+    for (i, x) in line.iter().enumerate() {
+        if *x == b':' {
             return i;
         }
-        i += 1;
     }
-    i
+    line.len()
 }
 
 // How many digits stand from a place on, at most 8.
@@ -50,8 +43,7 @@ fn digits(line: &[u8], at: usize) -> usize
     requires { at ≤ 65536 }
     ensures { result ≤ 8 }
 {
-    let mut n = 0;
-    while n < WIDEST {
+    for n in 0..WIDEST {
         let d = byte(line, at + n);
         if d < 48 {
             return n;
@@ -59,9 +51,8 @@ fn digits(line: &[u8], at: usize) -> usize
         if 57 < d {
             return n;
         }
-        n += 1;
     }
-    n
+    WIDEST
 }
 
 // The digit at a place, as a number.
@@ -81,10 +72,8 @@ fn values(line: &[u8], at: usize) -> [u8; 8]
     ensures { 8 ≡ length result }
 {
     let mut list = [0u8; 8];
-    let mut i = 0;
-    while i < WIDEST {
+    for i in 0..WIDEST {
         list[i] = digit(line, at + i) as u8;
-        i += 1;
     }
     list
 }
@@ -94,10 +83,8 @@ fn numbers(line: &[u8], at: usize) -> [u32; 8]
     ensures { 8 ≡ length result }
 {
     let mut list = [0u32; 8];
-    let mut i = 0;
-    while i < WIDEST {
+    for i in 0..WIDEST {
         list[i] = digit(line, at + i) as u32;
-        i += 1;
     }
     list
 }
@@ -169,30 +156,30 @@ fn with_pairs(file: &[u8], state: &[u8], line: &[u8], at: usize) -> Answered
 }
 
 // One case: its name, and the answer.
-fn case(file: &[u8], line: &[u8])
+fn case<W: Write>(out: &mut W, file: &[u8], line: &[u8]) -> io::Result<()>
     requires { length line.now ≤ 4096 }
 {
     let name = colon(line);
-    io::write_all(1, &line[..name]);
+    out.write_all(&line[..name])?;
     let at = name + 2;
     let n = digits(line, at);
     let state = values(line, at);
-    show(with_pairs(file, &state[..n], line, at + n + 1));
+    show(out, with_pairs(file, &state[..n], line, at + n + 1))
 }
 
-fn main() {
+fn main(rt: HostRuntime) -> io::Result<()> {
     let file =
         b"\x42\x50\x54\x31\x02\x00\x03\x00\x02\x00\x02\x00\x1c\x00\x00\x00\x20\x00\x00\x00\x8c\x00\x00\x00\xa4\x00\x00\x00\x02\x00\x02\x00\x01\x00\x02\x01\x00\x00\x01\x00\x00\x00\x00\x00\x00\x00\x00\x00\x00\x00\x00\x00\x01\x01\x00\x00\x00\x00\x00\x00\x00\x00\x00\x00\x00\x00\x00\x00\x01\x00\x02\x01\x00\x00\x01\x00\x00\x00\x00\x00\x00\x00\x00\x00\x00\x00\x00\x00\x00\x01\x00\x00\x00\x00\x00\x00\x00\x00\x00\x00\x00\x00\x00\x00\x01\x00\x02\x01\x00\x01\x01\x00\x00\x00\x00\x00\x00\x00\x00\x00\x00\x00\x00\x00\x01\x01\x00\x00\x00\x00\x00\x00\x00\x00\x00\x00\x00\x00\x00\x00\x02\x00\x01\x00\x00\x01\x00\x00\x00\x00\x00\x00\x01\x00\x02\x00\x00\x01\x01\x01\x00\x00\x00\x00";
-    let mut buffer = io::buffer();
-    let n = io::read_full(0, &mut buffer);
+    let mut out = io::writer(&rt);
+    let mut buffer = [0u8; MOST_BYTES];
+    let n = read_full(&mut rt.reader(), &mut buffer);
     let text = &buffer[..n];
     let mut start = 0;
-    let mut i = 0;
-    while i < n {
+    for i in 0..n {
         if text[i] == b'\n' {
-            case(file, &text[start..i]);
+            case(&mut out, file, &text[start..i])?;
             start = i + 1;
         }
-        i += 1;
     }
+    Ok(())
 }

@@ -1,4 +1,6 @@
 // The record lookup: an operator's record as a part of a file of any kind.
+#![tactic(auto)]
+
 ghost use Rattle.std.specs.Prelude.{◌≡◌};
 ghost use Rattle.record_lookup.specs.Lookup.{operator_part};
 

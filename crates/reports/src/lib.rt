@@ -1,12 +1,14 @@
 // The answers of check, writer, walk, question, search and the engine that lists states as callers in C get them: the documents' number and
 // values, a state's place, or the figures.
+#![tactic(auto)]
+
 ghost use Rattle.std.specs.Prelude.{◌≡◌};
 ghost use Rattle.task_check.specs.Answers.{answer};
-ghost use Rattle.writer.specs.Answers.{numbers as writeNumbers};
-ghost use Rattle.walk.specs.Answers.{numbers as walkNumbers};
-ghost use Rattle.question.specs.Answers.{numbers as questionNumbers};
+ghost use Rattle.writer.specs.Answers.{numbers as write_numbers};
+ghost use Rattle.walk.specs.Answers.{numbers as walk_numbers};
+ghost use Rattle.question.specs.Answers.{numbers as question_numbers};
 ghost use Rattle.search_answer.specs.Answers.{no_figures};
-ghost use Rattle.states_answer.specs.Answers.{no_figures as noSummary};
+ghost use Rattle.states_answer.specs.Answers.{no_figures as no_summary};
 ghost use Rattle.reports.specs.Reported.{reported, placed, check_numbers};
 ghost use Rattle.reports.specs.Totals.{totals_with, totals_of};
 ghost use Rattle.reports.specs.Tallies.{tally_with, tally_of};
@@ -21,7 +23,7 @@ use writer::Written;
 
 // An answer as C gets it: the documents' number, and two values.
 #[repr(C)]
-#[derive(Drop)]
+#[derive(Clone, Copy)]
 pub struct Report {
     pub number: u64,
     pub first: u64,
@@ -51,7 +53,7 @@ pub fn of_check(told: Checked) -> Report
 
 // The writer: 0 and the length written, or the refusal's number and value.
 pub fn of_write(told: Written) -> Report
-    ensures { reported result ≡ writeNumbers told }
+    ensures { reported result ≡ write_numbers told }
 {
     match told {
         Written::Unread { number, place } => reply(number as u64, place as u64, 0),
@@ -62,7 +64,7 @@ pub fn of_write(told: Written) -> Report
 
 // The walk of a plan: 0, cost and utility, or the refusal's number and value.
 pub fn of_walk(told: Walked) -> Report
-    ensures { reported result ≡ walkNumbers told }
+    ensures { reported result ≡ walk_numbers told }
 {
     match told {
         Walked::Unread { number, place } => reply(number as u64, place as u64, 0),
@@ -77,7 +79,7 @@ pub fn of_walk(told: Walked) -> Report
 
 // What a question reports: a refusal's number and value, or 0 and 0, and 1 with the state's cost and steps where it is reached.
 #[repr(C)]
-#[derive(Drop)]
+#[derive(Clone, Copy)]
 pub struct Place {
     pub number: u64,
     pub value: u64,
@@ -114,7 +116,7 @@ fn place_at(cost: u64, steps: u64) -> Place
 
 // The question about one state: its place, or that it is not reached, or the refusal's number and value.
 pub fn of_question(told: Answered) -> Place
-    ensures { placed result ≡ questionNumbers told }
+    ensures { placed result ≡ question_numbers told }
 {
     match told {
         Answered::Refused { number, place } => no_place(number as u64, place as u64),
@@ -125,7 +127,7 @@ pub fn of_question(told: Answered) -> Place
 
 // What a search reports: a refusal's number and value, or 0, 0 and the figures of the listing.
 #[repr(C)]
-#[derive(Drop)]
+#[derive(Clone, Copy)]
 pub struct Totals {
     pub number: u64,
     pub value: u64,
@@ -194,7 +196,7 @@ pub fn of_search(told: Searched) -> Totals
 
 // What the engine that lists states reports: a refusal's number and value, or 0, 0 and the figures.
 #[repr(C)]
-#[derive(Drop)]
+#[derive(Clone, Copy)]
 pub struct Tally {
     pub number: u64,
     pub value: u64,
@@ -229,7 +231,7 @@ fn tally_with(number: u64, value: u64, summary: Summary) -> Tally
 
 // The figures after a refusal.
 fn no_summary() -> Summary
-    ensures { result ≡ noSummary }
+    ensures { result ≡ no_summary }
 {
     Summary {
         utility: 0,

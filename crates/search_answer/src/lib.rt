@@ -1,4 +1,6 @@
 // The answer of a search; specs/ defines it, from the file and the lengths of the lent lists.
+#![tactic(auto)]
+
 ghost use Rattle.std.specs.Prelude.{◌≡◌};
 ghost use Rattle.task.specs.Decode.{task_of};
 ghost use Rattle.search_answer.specs.declared.Searched.TheVariants.{Refused};
@@ -7,7 +9,7 @@ ghost use Rattle.search_answer.specs.Search.{figures_of};
 use task::header::bound;
 
 // The figures of the listing, the number of pairs of cost and steps that have a set, and the number of the plan's steps.
-#[derive(Drop)]
+#[derive(Clone, Copy)]
 pub struct Listing {
     pub utility: usize,
     pub ceiling: usize,
@@ -19,7 +21,7 @@ pub struct Listing {
     pub steps: usize,
 }
 
-#[derive(Drop)]
+#[derive(Clone, Copy)]
 pub enum Searched {
     // The refusal's number, and the record that it is about, or 0.
     Refused { number: u8, place: u16 },

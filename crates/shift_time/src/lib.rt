@@ -1,4 +1,6 @@
 // The time of a plan as the stand's operators read it. The task counts units of ten seconds.
+#![tactic(auto)]
+
 ghost use Rattle.std.specs.Prelude.{◌-◌, ◌≡◌};
 ghost use Rattle.shift_time.specs.Time.{time_of};
 
@@ -6,7 +8,7 @@ ghost use Rattle.shift_time.specs.Time.{time_of};
 const MINUTE: usize = 6;
 
 // What a plan takes, in whole minutes and units left over, and the units of the shift that it leaves unused.
-#[derive(Drop)]
+#[derive(Clone, Copy)]
 pub struct Time {
     pub minutes: usize,
     pub units: usize,

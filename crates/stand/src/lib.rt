@@ -1,7 +1,12 @@
 // The stand's task files P and Q, and the parts to make others from, written to lent bytes; and a refusal's line.
+#![tactic(auto)]
+
 ghost use Rattle.std.specs.Prelude.{◌≡◌, ◌+◌, ◌<◌, ◌≤◌, length, set, replicate};
 ghost use Rattle.task.specs.Cases.{header, file_p, file_q, file_plain};
 ghost use Rattle.stand.specs.Bytes.{overlay, put16, put_sizes};
+
+use std::io;
+use std::io::Write;
 
 // Writes a byte, if there is such a place.
 pub fn set8(file: &mut [u8], at: usize, x: u8)
@@ -119,11 +124,7 @@ pub fn plain(file: &mut [u8])
     copy(file, 104, b"\x07\x00\x02\x00\x00\x01\x01\x03");
 }
 
-// Writes a refusal's number and value to standard output, and ends the line.
-pub fn refused(number: u64, value: u64) {
-    io::write_all(1, b"refused ");
-    io::print_decimal(1, number);
-    io::write_all(1, b" ");
-    io::print_decimal(1, value);
-    io::write_all(1, b"\n");
+// Writes a refusal's number and value, and ends the line.
+pub fn refused<W: Write>(out: &mut W, number: u64, value: u64) -> io::Result<()> {
+    writeln!(out, "refused {number} {value}")
 }

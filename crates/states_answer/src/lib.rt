@@ -1,9 +1,11 @@
 // The answer of the engine that lists states; specs/ defines it, from the file and the lengths of the lent lists.
+#![tactic(auto)]
+
 ghost use Rattle.std.specs.Prelude.{◌≡◌};
 ghost use Rattle.states_answer.specs.declared.Enumerated.TheVariants.{Refused};
 
 // The best plan's utility and cost, the bound, the number of states within the bound, and the number of the plan's steps.
-#[derive(Drop)]
+#[derive(Clone, Copy)]
 pub struct Summary {
     pub utility: usize,
     pub cost: usize,
@@ -12,7 +14,7 @@ pub struct Summary {
     pub steps: usize,
 }
 
-#[derive(Drop)]
+#[derive(Clone, Copy)]
 pub enum Enumerated {
     // The refusal's number, and the record that it is about, or 0.
     Refused { number: u8, place: u16 },

@@ -1,4 +1,6 @@
 // The utility of states that are words, and the greatest of a list of states.
+#![tactic(auto)]
+
 ghost use Rattle.std.specs.Prelude.{◌≡◌, true, ℕ, ◌+◌, ◌*◌, ◌≤◌, ◌<◌, length, get_or};
 ghost use Rattle.task.specs.Format.{terms};
 ghost use Rattle.task.specs.Check.{accepted};
@@ -63,7 +65,7 @@ pub fn worth(table: &[u64], n: usize, s: u64) -> u64
 }
 
 // The greatest utility, and the first state that has it.
-#[derive(Drop)]
+#[derive(Clone, Copy)]
 pub struct Top {
     pub utility: u64,
     pub at: usize,

@@ -9,7 +9,7 @@ use Rattle.search_answer.specs.declared.Searched.{Searched}
 use lib.ListN.{length}
 use Rattle.writer.specs.declared.Written.{Written}
 use Rattle.writer.specs.Write.{write_of, leaves}
-use Rattle.writer.specs.Answers.{numbers as writeNumbers}
+use Rattle.writer.specs.Answers.{numbers as write_numbers}
 use Rattle.states_answer.specs.declared.Enumerated.{Enumerated}
 use Rattle.states_answer.specs.Lent.{Lent as StateLists}
 use Rattle.states.specs.Leaves.{Enumerates}
@@ -32,6 +32,6 @@ states_is w f before after x s r = record {
   leaves = subst (λ (a : Enumerated). StatesLeave (task_of f) a before after) s.answers s.leaves;
 }
 
-pub write_is : (w : Written) (f out out' : List ℕ) (x : ℕ × ℕ × ℕ) → (w ≡ write_of f (length out)) × (out' ≡ leaves w f out) → x ≡ writeNumbers w
-    → (x ≡ writeNumbers (write_of f (length out))) × (out' ≡ leaves (write_of f (length out)) f out)
-write_is w f out out' x s r = (r ∙ ap writeNumbers s.0, s.1 ∙ ap (λ (a : Written). leaves a f out) s.0)
+pub write_is : (w : Written) (f out out' : List ℕ) (x : ℕ × ℕ × ℕ) → (w ≡ write_of f (length out)) × (out' ≡ leaves w f out) → x ≡ write_numbers w
+    → (x ≡ write_numbers (write_of f (length out))) × (out' ≡ leaves (write_of f (length out)) f out)
+write_is w f out out' x s r = (r ∙ ap write_numbers s.0, s.1 ∙ ap (λ (a : Written). leaves a f out) s.0)

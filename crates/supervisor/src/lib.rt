@@ -1,14 +1,16 @@
 // The file check, the writer, the walk, the search, the question and the engine that lists states for callers in C; include/laurelsnap.h describes them there.
+#![tactic(auto)]
+
 ghost use Rattle.std.specs.Prelude.{◌≡◌, length};
 ghost use Rattle.task.specs.Check.{check_of};
 ghost use Rattle.writer.specs.Write.{write_of, leaves};
-ghost use Rattle.writer.specs.Answers.{numbers as writeNumbers};
+ghost use Rattle.writer.specs.Answers.{numbers as write_numbers};
 ghost use Rattle.walk.specs.Walk.{walk_of};
-ghost use Rattle.walk.specs.Answers.{numbers as walkNumbers};
+ghost use Rattle.walk.specs.Answers.{numbers as walk_numbers};
 ghost use Rattle.search_answer.specs.Lent.{lent};
 ghost use Rattle.states_answer.specs.Lent.{lent as state_lists};
 ghost use Rattle.question.specs.Question.{question_of};
-ghost use Rattle.question.specs.Answers.{numbers as questionNumbers};
+ghost use Rattle.question.specs.Answers.{numbers as question_numbers};
 ghost use Rattle.reports.specs.Reported.{reported, placed, check_numbers};
 ghost use Rattle.supervisor.specs.Reports.{Reports, ReportsStates};
 
@@ -37,7 +39,7 @@ pub extern "C" fn laurelsnap_write(file: &[u8], out: &mut [u8]) -> Report
         let before = out.old in
         let after = out.new in
         let answer = write_of f (length before) in
-        (reported result ≡ writeNumbers answer) × (after ≡ leaves answer f before) }
+        (reported result ≡ write_numbers answer) × (after ≡ leaves answer f before) }
 {
     of_write(write(file, out))
 }
@@ -45,7 +47,7 @@ pub extern "C" fn laurelsnap_write(file: &[u8], out: &mut [u8]) -> Report
 // The walk of a plan: 0, cost and utility, or the refusal's number and value.
 #[unsafe(no_mangle)]
 pub extern "C" fn laurelsnap_walk(file: &[u8], plan: &[u8]) -> Report
-    ensures { reported result ≡ walkNumbers (walk_of file.now plan.now) }
+    ensures { reported result ≡ walk_numbers (walk_of file.now plan.now) }
 {
     of_walk(walk(file, plan))
 }
@@ -98,7 +100,7 @@ pub extern "C" fn laurelsnap_question(
 ) -> Place
     ensures { let answer = question_of file.now state.now
         costs.now steps.now sets.now wanted.now bit.now low.now high.now count pairs in
-        placed result ≡ questionNumbers answer }
+        placed result ≡ question_numbers answer }
 {
     of_question(question(
         file, state, costs, steps, sets, wanted, bit, low, high, count, pairs,

@@ -1,4 +1,6 @@
 // The file check: refusals 1 to 10, in order.
+#![tactic(auto)]
+
 ghost use Rattle.std.specs.Prelude.{◌≡◌};
 ghost use Rattle.task.specs.Check.{check_of, accepted};
 ghost use Rattle.task_check.specs.Answers.{answer, passed};
@@ -10,7 +12,7 @@ use task_header_check::header_fault;
 use task_record_check::{first_bad_operator, first_bad_term, first_bad_variable};
 
 // What the file check answers (specs/Answers.antt has document 01's number and value for each case).
-#[derive(Drop)]
+#[derive(Clone, Copy)]
 pub enum Checked {
     Accepted,
     // The refusal's number, and the record that it is about, or 0.

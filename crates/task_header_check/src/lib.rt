@@ -1,4 +1,6 @@
 // The header of a task file: the refusals 1 to 6.
+#![tactic(auto)]
+
 ghost use Rattle.std.specs.Prelude.{◌≡◌, ◌<◌, ◌^◌};
 ghost use Rattle.task.specs.Check.{letter_right, letters_right, length_right, counts_right, section_inside, apart, all_inside, all_apart, header_fault};
 

@@ -1,4 +1,6 @@
 // The rules for each kind of record, and the first record of each kind that breaks them: the refusals 7, 9 and 10.
+#![tactic(auto)]
+
 mod facts;
 
 ghost use Rattle.std.specs.Prelude.{◌≡◌, ◌<◌};

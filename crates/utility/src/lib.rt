@@ -1,12 +1,14 @@
 // The utility diagram of a task and what the search asks of it: definitions, their laws, and the readers that the walks through a set
 // and the utility diagram share.
+#![tactic(auto)]
+
 ghost use Rattle.std.specs.Prelude.{◌≡◌, ◌+◌, ◌≤◌, ◌<◌, length};
 ghost use Rattle.utility.specs.Reading.{end_of, pair_of};
 
 use diagrams::Split;
 
 // Whether a name of the utility diagram stands for an end value, and which; the names 0 and 1 count as the value 0.
-#[derive(Drop)]
+#[derive(Clone, Copy)]
 pub struct Ending {
     pub known: bool,
     pub value: u32,

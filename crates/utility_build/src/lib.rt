@@ -1,4 +1,6 @@
 // The utility diagram of the task that a file holds: the constant 0, then each term added in turn.
+#![tactic(auto)]
+
 ghost use Rattle.std.specs.Prelude.{◌≡◌, true, ◌-◌, ◌<◌, ◌≤◌, length};
 ghost use Rattle.diagrams.specs.Store.{table};
 ghost use Rattle.diagrams.specs.Sets.{MakesAll};

@@ -2,6 +2,8 @@
 // the same, with memo lists of no number, of one, and of many: the entry count; whether lists of that many entries hold the diagram, and
 // lists of one less; a sum over its values at every list of bits; within random sets, the greatest utility and 1, and a sum over the
 // states that have it; a sum over the states with permitted values, and the ceiling.
+#![tactic(auto)]
+
 ghost use Rattle.std.specs.Prelude.{◌≡◌, true, ◌+◌, ◌≤◌, ◌<◌, length};
 ghost use Rattle.diagrams.specs.Tree.{meet_t};
 ghost use Rattle.diagrams.specs.Store.{table, tree, Store};
@@ -14,6 +16,9 @@ ghost use Rattle.utility_cases.specs.Ready.{Ready, Goes};
 
 use diagram_apply::{difference, union};
 use diagrams::{Made, done};
+use input::read_full;
+use std::io;
+use std::io::Write;
 use task::bytes::le32;
 use task::limits::MOST_BITS;
 
@@ -31,13 +36,15 @@ const PRIME: u64 = 2147483647;
 
 const FACTOR: u64 = 48271;
 
+// The most bytes that are read.
+const MOST_BYTES: usize = 4096;
+
 // The bytes of a header.
 const HEADER: usize = 28;
 
 // A number, after a space.
-fn show(x: u64) {
-    io::write_all(1, b" ");
-    io::print_decimal(1, x);
+fn show<W: Write>(out: &mut W, x: u64) -> io::Result<()> {
+    write!(out, " {x}")
 }
 
 // A name as a place in a list.
@@ -205,7 +212,8 @@ fn random_set(
 }
 
 // Within a random set: the greatest utility and 1, 0 where it is empty, and a sum over the states that have it.
-fn within(
+fn within<W: Write>(
+    out: &mut W,
     bit: &mut [u32],
     low: &mut [u32],
     high: &mut [u32],
@@ -220,21 +228,21 @@ fn within(
     n: usize,
     cubes: u32,
     seed: u64,
-)
+) -> io::Result<()>
     requires store { Store (nodes ubit.now ulow.now uhigh.now ucount) × (u < ucount + 2) }
     requires low_len { (length low.old ≡ length bit.old) × (length high.old ≡ length bit.old) × (length bit.old ≤ 1048576) }
 {
     diagram_memo::begin(memo);
     let b = random_set(bit, low, high, heads, chain, memo, size(n), cubes, seed);
     if b.full {
-        return;
+        return Ok(());
     }
     let top = utility_greatest::greatest(
         bit, low, high, ubit, ulow, uhigh, memo, b.count, ucount, b.name, u,
     );
-    show(top as u64);
+    show(out, top as u64)?;
     if top == 0 {
-        return;
+        return Ok(());
     }
     let r = utility_select::select(
         bit,
@@ -252,11 +260,12 @@ fn within(
         b.name,
         u,
     );
-    show(checksum(bit, low, high, r.name, n));
+    show(out, checksum(bit, low, high, r.name, n))
 }
 
 // The same within sets of no cube, one cube and so on.
-fn within_sets(
+fn within_sets<W: Write>(
+    out: &mut W,
     bit: &mut [u32],
     low: &mut [u32],
     high: &mut [u32],
@@ -270,7 +279,7 @@ fn within_sets(
     u: u32,
     n: usize,
     seed: u64,
-)
+) -> io::Result<()>
     requires store { Store (nodes ubit.now ulow.now uhigh.now ucount) × (u < ucount + 2) }
     requires low_len { (length low.old ≡ length bit.old) × (length high.old ≡ length bit.old) × (length bit.old ≤ 1048576) }
 {
@@ -278,6 +287,7 @@ fn within_sets(
     let mut cubes: u32 = 0;
     while cubes < SETS {
         within(
+            out,
             bit,
             low,
             high,
@@ -292,9 +302,10 @@ fn within_sets(
             n,
             cubes,
             draw(x + cubes as u64),
-        );
+        )?;
         cubes += 1;
     }
+    Ok(())
 }
 
 // Whether lists of n entries hold the diagram, with a memo of m numbers.
@@ -320,13 +331,13 @@ fn fits(file: &[u8], n: usize, m: usize) -> bool
 }
 
 // 1 where lists of n entries hold the diagram, else 0; with a memo of m numbers.
-fn show_fit(file: &[u8], n: usize, m: usize)
+fn show_fit<W: Write>(out: &mut W, file: &[u8], n: usize, m: usize) -> io::Result<()>
     requires { (accepted file.now ≡ true) × (n ≤ 512) × (m ≤ 8192) }
 {
     if fits(file, n, m) {
-        show(1);
+        show(out, 1)
     } else {
-        show(0);
+        show(out, 0)
     }
 }
 
@@ -351,7 +362,8 @@ fn permitted(file: &[u8], n: usize) -> u64
 }
 
 // The ceiling, from the utility diagram named u.
-fn show_ceiling(
+fn show_ceiling<W: Write>(
+    out: &mut W,
     file: &[u8],
     ubit: &[u32],
     ulow: &[u32],
@@ -359,16 +371,17 @@ fn show_ceiling(
     memo: &mut [u32],
     ucount: usize,
     u: u32,
-)
+) -> io::Result<()>
     requires file_value { accepted file.now ≡ true }
     requires valued { Valued (task_of file.now) (nodes ubit.now ulow.now uhigh.now ucount) u }
 {
     let top = utility_ceiling::ceiling(file, ubit, ulow, uhigh, memo, ucount, u);
-    show(top as u64);
+    show(out, top as u64)
 }
 
 // All that is shown of an accepted file, with memo lists of m numbers.
-fn run(
+fn run<W: Write>(
+    out: &mut W,
     file: &[u8],
     ubit: &mut [u32],
     ulow: &mut [u32],
@@ -381,32 +394,32 @@ fn run(
     memo: &mut [u32],
     m: usize,
     seed: u64,
-)
+) -> io::Result<()>
     requires file_value { (accepted file.now ≡ true) × (m ≤ 8192) }
     requires ulow_len { (length ulow.old ≡ length ubit.old) × (length uhigh.old ≡ length ubit.old) × (length ubit.old ≡ 512) }
     requires low_len { (length low.old ≡ length bit.old) × (length high.old ≡ length bit.old) × (length bit.old ≤ 1048576) }
 {
     let r = utility_build::build(file, ubit, ulow, uhigh, heads, chain, memo);
     if r.full {
-        return;
+        return Ok(());
     }
     if r.count == 0 {
-        return;
+        return Ok(());
     }
     let n = task::coding::bits(file);
-    show(r.count as u64);
-    show_fit(file, r.count, m);
-    show_fit(file, r.count - 1, m);
-    show(checksum(ubit, ulow, uhigh, r.name, n));
+    show(out, r.count as u64)?;
+    show_fit(out, file, r.count, m)?;
+    show_fit(out, file, r.count - 1, m)?;
+    show(out, checksum(ubit, ulow, uhigh, r.name, n))?;
     within_sets(
-        bit, low, high, heads, chain, memo, ubit, ulow, uhigh, r.count, r.name, n, seed,
-    );
-    show(permitted(file, n));
-    show_ceiling(file, ubit, ulow, uhigh, memo, r.count, r.name);
+        out, bit, low, high, heads, chain, memo, ubit, ulow, uhigh, r.count, r.name, n, seed,
+    )?;
+    show(out, permitted(file, n))?;
+    show_ceiling(out, file, ubit, ulow, uhigh, memo, r.count, r.name)
 }
 
 // A line for a file, with memo lists of m numbers.
-fn case(file: &[u8], m: usize, seed: u64)
+fn case<W: Write>(out: &mut W, file: &[u8], m: usize, seed: u64) -> io::Result<()>
     requires { m ≤ 8192 }
 {
     if task_check::accepted(file) {
@@ -420,6 +433,7 @@ fn case(file: &[u8], m: usize, seed: u64)
         let mut chain = [0u32; LENT];
         let mut memo = [0u32; MEMO];
         run(
+            out,
             file,
             &mut ubit[..],
             &mut ulow[..],
@@ -432,14 +446,15 @@ fn case(file: &[u8], m: usize, seed: u64)
             &mut memo[..m],
             m,
             seed,
-        );
+        )?;
     }
-    io::write_all(1, b"\n");
+    writeln!(out)
 }
 
-fn main() {
-    let mut buffer = io::buffer();
-    let n = io::read_full(0, &mut buffer);
+fn main(rt: HostRuntime) -> io::Result<()> {
+    let mut out = io::writer(&rt);
+    let mut buffer = [0u8; MOST_BYTES];
+    let n = read_full(&mut rt.reader(), &mut buffer);
     let text = &buffer[..n];
     let mut at = 0;
     let mut left = n;
@@ -447,18 +462,19 @@ fn main() {
     while HEADER <= left {
         let len = le32(text, at + 24);
         if len < HEADER {
-            return;
+            return Ok(());
         }
         if left < len {
-            return;
+            return Ok(());
         }
         let end = at + len;
         let file = &text[at..end];
-        case(file, 0, seed);
-        case(file, 1, seed);
-        case(file, MEMO, seed);
+        case(&mut out, file, 0, seed)?;
+        case(&mut out, file, 1, seed)?;
+        case(&mut out, file, MEMO, seed)?;
         at = end;
         left -= len;
         seed = draw(seed);
     }
+    Ok(())
 }

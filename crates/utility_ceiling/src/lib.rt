@@ -1,5 +1,7 @@
 // The ceiling of a task: the greatest utility of any state whose variables have permitted values. These states are a set, whose diagram has at
 // most one node for each bit; it is made in lists of its own, from the last bit up.
+#![tactic(auto)]
+
 ghost use Rattle.std.specs.Prelude.{◌≡◌, true, ℕ, suc, ◌+◌, ◌≤◌, ◌<◌, length};
 ghost use Rattle.planning.specs.Ceiling.{ceiling};
 ghost use Rattle.diagrams.specs.Tree.{Under};

@@ -1,4 +1,6 @@
 // The greatest utility of the states in a set. No node is made.
+#![tactic(auto)]
+
 ghost use Rattle.std.specs.Prelude.{◌≡◌, ◌+◌, ◌<◌, max, length};
 ghost use Rattle.diagrams.specs.Store.{Store};
 ghost use Rattle.diagrams.specs.Memo.{Memo, Stamped, size_of};

@@ -1,4 +1,6 @@
 // The walk of a given plan, two bytes for each step, low byte first.
+#![tactic(auto)]
+
 ghost use Rattle.std.specs.Prelude.{◌≡◌, ◌≤◌, length};
 ghost use Rattle.task.specs.Limits.{most_variables};
 ghost use Rattle.task.specs.Format.{variables};
@@ -16,7 +18,7 @@ use task_check::{Checked, check};
 use task_states::state::{apply, met, start, utility};
 
 // What is wrong with a step.
-#[derive(Drop)]
+#[derive(Clone, Copy)]
 pub enum Fault {
     // No such operator.
     Operator,
@@ -38,14 +40,14 @@ pub fn fault_number(fault: Fault) -> u64
 }
 
 // The first step that fails, and the fault found there.
-#[derive(Drop)]
+#[derive(Clone, Copy)]
 pub struct Stop {
     pub step: usize,
     pub fault: Fault,
 }
 
 // What the walk answers (specs/Answers.antt has document 01's number and values for each case).
-#[derive(Drop)]
+#[derive(Clone, Copy)]
 pub enum Walked {
     // The file is refused: the number, and the record that it is about, or 0.
     Unread { number: u8, place: u16 },

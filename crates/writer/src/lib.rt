@@ -1,4 +1,6 @@
 // The writer: a task's canonical file, its sections in order and without gaps, so that files of one task can be compared by their bytes.
+#![tactic(auto)]
+
 ghost use Rattle.std.specs.Prelude.{◌≡◌, true, ◌+◌, ◌≤◌, ◌<◌, length, get_or};
 ghost use mathlib.Core.List.{[], flatten};
 ghost use Rattle.task.specs.Limits.{header_bytes};
@@ -13,7 +15,7 @@ use task::limits::{HEADER_BYTES, OPERATOR_BYTES, TERM_BYTES, VARIABLE_BYTES};
 use task_check::{Checked, check};
 
 // What the writer answers (specs/Answers.antt has the documents' number and values for each case).
-#[derive(Drop)]
+#[derive(Clone, Copy)]
 pub enum Written {
     // The file is refused: the number, and the record that it is about, or 0.
     Unread { number: u8, place: u16 },

@@ -31,8 +31,8 @@ returns c = c.reply.ensures ∙ ap (λ (a : Checked). check_numbers (answer a)) 
 returns-2 : tie.Need-returns-2
 returns-2 c = c.reply2.ensures ∙ ap (λ (a : Checked). check_numbers (answer a)) (sym c.before.before.told.given.1)
 
-pub of-check-spec : {M : Type 1} → statement M
-of-check-spec =
+pub of_check_spec : {M : Type 1} → statement M
+of_check_spec =
     tie.close
     (tie.spec
     enum_told

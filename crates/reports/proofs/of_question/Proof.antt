@@ -38,8 +38,8 @@ returns-2 c = c.place_at.ensures ∙ ap numbers (sym c.before.before.told2.given
 returns-3 : tie.Need-returns-3
 returns-3 c = c.no-place2.ensures ∙ ap numbers (sym c.before.enum_told.given.1)
 
-pub of-question-spec : {M : Type 1} → statement M
-of-question-spec =
+pub of_question_spec : {M : Type 1} → statement M
+of_question_spec =
     tie.close
     (tie.spec
     enum-known-told

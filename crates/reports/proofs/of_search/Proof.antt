@@ -34,8 +34,8 @@ returns c = c.totals-with.ensures
 returns-2 : tie.Need-returns-2
 returns-2 c = c.totals-with2.ensures ∙ ap totals_of (sym c.before.before.told2.given.1)
 
-pub of-search-spec : {M : Type 1} → statement M
-of-search-spec =
+pub of_search_spec : {M : Type 1} → statement M
+of_search_spec =
     tie.close
     (tie.spec
     enum-known-told

@@ -34,8 +34,8 @@ returns c = c.tally-with.ensures
 returns-2 : tie.Need-returns-2
 returns-2 c = c.tally-with2.ensures ∙ ap tally_of (sym c.before.before.told2.given.1)
 
-pub of-states-spec : {M : Type 1} → statement M
-of-states-spec =
+pub of_states_spec : {M : Type 1} → statement M
+of_states_spec =
     tie.close
     (tie.spec
     enum-known-told

@@ -53,8 +53,8 @@ returns-3 c =
 returns-4 : tie.Need-returns-4
 returns-4 c = c.reply4.ensures ∙ ap numbers (sym c.before.before.told3.given.1)
 
-pub of-walk-spec : {M : Type 1} → statement M
-of-walk-spec =
+pub of_walk_spec : {M : Type 1} → statement M
+of_walk_spec =
     tie.close
     (tie.spec
     enum-known-told

@@ -38,8 +38,8 @@ returns-2 c = c.reply2.ensures ∙ ap numbers (sym c.before.enum_told.given.1)
 returns-3 : tie.Need-returns-3
 returns-3 c = c.reply3.ensures ∙ ap numbers (sym c.before.before.told2.given.1)
 
-pub of-write-spec : {M : Type 1} → statement M
-of-write-spec =
+pub of_write_spec : {M : Type 1} → statement M
+of_write_spec =
     tie.close
     (tie.spec
     enum-known-told

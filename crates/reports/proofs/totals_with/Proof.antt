@@ -9,5 +9,5 @@ time-of-requires c κs = search rules
 returns : tie.Need-returns
 returns c = rw c.time-of.ensures
 
-pub totals-with-spec : {M : Type 1} → statement M
-totals-with-spec = tie.close (tie.spec time-of-requires returns)
+pub totals_with_spec : {M : Type 1} → statement M
+totals_with_spec = tie.close (tie.spec time-of-requires returns)

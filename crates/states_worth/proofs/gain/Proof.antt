@@ -46,8 +46,8 @@ returns c = gain_yes _ _ _ _ c.before.before.meets.ensures c.before.if1.true
 returns-2 : tie.Need-returns-2
 returns-2 c = gain_no _ _ _ _ c.before.meets.ensures c.if1.false
 
-pub gain-spec : {M : Type 1} → statement M
-gain-spec =
+pub gain_spec : {M : Type 1} → statement M
+gain_spec =
     tie.close
     (tie.spec
     mul-meets

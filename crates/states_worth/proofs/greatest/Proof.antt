@@ -54,8 +54,8 @@ loop-again c =
 returns : tie.Need-returns invariant-loop decreases-loop
 returns c = top_all _ _ _ _ _ _ _ (omega arith) c.before.loop.invariant.0
 
-pub greatest-spec : {M : Type 1} → statement M
-greatest-spec =
+pub greatest_spec : {M : Type 1} → statement M
+greatest_spec =
     tie.close
     (tie.spec
     invariant-loop

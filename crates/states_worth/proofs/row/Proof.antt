@@ -52,8 +52,8 @@ returns c =
     let w = c.term-weight.result in
     (writes_term _ t a.args.j w q a.requires.2 c.term-weight.ensures c.before.term-cube.ensures, row_length t a.args.j w q.care q.value, rows_before t a.args.j w q.care q.value)
 
-pub row-spec : {M : Type 1} → statement M
-row-spec =
+pub row_spec : {M : Type 1} → statement M
+row_spec =
     tie.close
     (tie.spec
     term-cube-requires

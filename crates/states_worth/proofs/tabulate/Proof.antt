@@ -48,8 +48,8 @@ returns c =
     let i = c.before.loop.invariant in
     fill_all _ _ _ (omega (arith, a.requires.1, i.2)) (omega (arith, n, c.loop-test.false)) i.0
 
-pub tabulate-spec : {M : Type 1} → statement M
-tabulate-spec =
+pub tabulate_spec : {M : Type 1} → statement M
+tabulate_spec =
     tie.close
     (tie.spec
     invariant-loop

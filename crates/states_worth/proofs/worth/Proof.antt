@@ -41,7 +41,7 @@ returns c =
     let a = c.before.before.before in
     sum_done _ _ _ _ _ a.requires c.loop-test.false c.before.loop.invariant
 
-pub worth-spec : {M : Type 1} → statement M
-worth-spec =
+pub worth_spec : {M : Type 1} → statement M
+worth_spec =
     tie.close
     (tie.spec invariant-loop decreases-loop loop-holds gain-requires add-sum add-j loop-less loop-again returns)

@@ -14,5 +14,5 @@ of-check-requires c κs = search rules
 returns : tie.Need-returns
 returns c = c.of-check.ensures ∙ ap check_numbers c.before.check.ensures.0
 
-pub laurelsnap-check-spec : {M : Type 1} → statement M
-laurelsnap-check-spec = tie.close (tie.spec check-requires of-check-requires returns)
+pub laurelsnap_check_spec : {M : Type 1} → statement M
+laurelsnap_check_spec = tie.close (tie.spec check-requires of-check-requires returns)

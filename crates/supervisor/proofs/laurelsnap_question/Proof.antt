@@ -14,5 +14,5 @@ of-question-requires c κs = search rules
 returns : tie.Need-returns
 returns c = c.of-question.ensures ∙ ap numbers c.before.question.ensures
 
-pub laurelsnap-question-spec : {M : Type 1} → statement M
-laurelsnap-question-spec = tie.close (tie.spec question-requires of-question-requires returns)
+pub laurelsnap_question_spec : {M : Type 1} → statement M
+laurelsnap_question_spec = tie.close (tie.spec question-requires of-question-requires returns)

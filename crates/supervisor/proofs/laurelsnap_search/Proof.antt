@@ -59,8 +59,8 @@ same-length-14 c = (searched c).search.auto.1.1.1.1.1.1.1.1.1.1.1.1.1.1.0
 returns : tie.Need-returns
 returns c = search_is _ _ _ _ _ (searched c).search.ensures c.of-search.ensures
 
-pub laurelsnap-search-spec : {M : Type 1} → statement M
-laurelsnap-search-spec =
+pub laurelsnap_search_spec : {M : Type 1} → statement M
+laurelsnap_search_spec =
     tie.close
     (tie.spec
     search-requires

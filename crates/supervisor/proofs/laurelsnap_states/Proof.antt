@@ -31,8 +31,8 @@ same-length-6 c = search rules
 returns : tie.Need-returns
 returns c = states_is _ _ _ _ _ c.before.before.before.before.before.before.before.before.before.before.before.before.before.list-states.ensures c.of-states.ensures
 
-pub laurelsnap-states-spec : {M : Type 1} → statement M
-laurelsnap-states-spec =
+pub laurelsnap_states_spec : {M : Type 1} → statement M
+laurelsnap_states_spec =
     tie.close
     (tie.spec
     list-states-requires

@@ -14,5 +14,5 @@ of-walk-requires c κs = search rules
 returns : tie.Need-returns
 returns c = c.of-walk.ensures ∙ ap numbers c.before.walk.ensures
 
-pub laurelsnap-walk-spec : {M : Type 1} → statement M
-laurelsnap-walk-spec = tie.close (tie.spec walk-requires of-walk-requires returns)
+pub laurelsnap_walk_spec : {M : Type 1} → statement M
+laurelsnap_walk_spec = tie.close (tie.spec walk-requires of-walk-requires returns)

@@ -16,5 +16,5 @@ same_length c = c.before.before.before.write.auto.1.0
 returns : tie.Need-returns
 returns c = write_is _ _ _ _ _ c.before.before.before.write.ensures c.of-write.ensures
 
-pub laurelsnap-write-spec : {M : Type 1} → statement M
-laurelsnap-write-spec = tie.close (tie.spec write-requires of-write-requires same_length returns)
+pub laurelsnap_write_spec : {M : Type 1} → statement M
+laurelsnap_write_spec = tie.close (tie.spec write-requires of-write-requires same_length returns)

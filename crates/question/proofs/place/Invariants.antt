@@ -1,0 +1,15 @@
+use Prim.Native.Nat.{◌-◌}
+use mathlib.Core.Path.{sym, ◌∙◌}
+use native.Mathlib.Omega.{arith}
+use Rattle.diagrams.specs.Tree.{trees}
+use Rattle.question.specs.PairSets.{held_at}
+use Rattle.question.proofs.Places.{LeftFrom, place_none, place_more, place_stop, place_done}
+use Rattle.question.proofs.place.Given as goal
+
+abbrev pub invariant-loop-i : goal.invariant-loop-i
+invariant-loop-i l =
+    LeftFrom l.costs l.steps (held_at l.sets (trees l.bit l.low l.high l.count) l.state) l.n l.i
+
+abbrev pub decreases-loop-i : goal.decreases-loop-i
+decreases-loop-i l =
+    l.n - l.i

@@ -1,0 +1,6 @@
+use borrow.Author.Rules.{rules}
+use Rattle.shift_time.proofs.time_of.Goals as goal
+
+pub returns : goal.returns
+returns c =
+    rw c.unused.ensures

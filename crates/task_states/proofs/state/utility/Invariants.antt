@@ -1,0 +1,15 @@
+use Prim.Native.Nat.{◌-◌, ◌*◌, ◌≤◌}
+use native.Mathlib.Omega.{arith}
+use borrow.Author.Rules.{rules}
+use Rattle.task.specs.Format.{terms}
+use Rattle.task.specs.Decode.{task_of}
+use Rattle.task_states.proofs.StateLaws.{SumTo, sum_none, sum_more, sum_done}
+use Rattle.task_states.proofs.state.utility.Given as goal
+
+abbrev pub invariant-loop-t : goal.invariant-loop-t
+invariant-loop-t l =
+    SumTo l.file l.state (terms l.file) l.sum l.t × ((l.t ≤ l.n) × (l.sum ≤ 65535 * l.t))
+
+abbrev pub decreases-loop-t : goal.decreases-loop-t
+decreases-loop-t l =
+    l.n - l.t
