@@ -31,7 +31,7 @@ slice_bounds-walk_in-end c =
 pub walk_in-requires : goal.walk_in-requires
 walk_in-requires c =
     let passes : accepted c.args.file.now ≡ true = told_accepted _ _ c.check.ensures c.in_default.is in
-    let room : c.variables-n.result ≤ 64 = omega (arith, (sound _ passes).few_variables, c.variables-n.ensures.is) in
+    let room : c.variables-n.result ≤ 32 = omega (arith, (sound _ passes).few_variables, c.variables-n.ensures.is) in
     let l = length-take-le _ _ room in
     (l ∙ c.variables-n.ensures.is, omega (arith, l, room))
 
