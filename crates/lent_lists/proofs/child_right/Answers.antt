@@ -1,4 +1,3 @@
-use borrow.Author.Rules.{rules}
 use Rattle.planning.proofs.Guards.{tests}
 use Rattle.lent_lists.specs.Lists.{child_right}
 use Rattle.lent_lists.proofs.child_right.Goals as goal

@@ -1,8 +1,7 @@
-use Prim.Native.Nat.{◌-◌}
 use native.Mathlib.Omega.{arith}
 use Rattle.planning.proofs.Guards.{wrong, right}
-use Rattle.planning.proofs.Scan.{EveryFrom, every_none, every_more, every_stop, every_done}
-use Rattle.lent_lists.specs.Lists.{entry_right, entries_right}
+use Rattle.planning.proofs.Scan.{every_none, every_more, every_stop, every_done}
+use Rattle.lent_lists.specs.Lists.{entries_right}
 use Rattle.lent_lists.proofs.entries_right.Goals as goal
 
 pub loop-k-init : goal.loop-k-init

@@ -1,8 +1,6 @@
 use Prim.Native.Nat.{◌-◌}
-use native.Mathlib.Omega.{arith}
-use Rattle.planning.proofs.Guards.{wrong, right}
-use Rattle.planning.proofs.Scan.{EveryFrom, every_none, every_more, every_stop, every_done}
-use Rattle.lent_lists.specs.Lists.{entry_right, entries_right}
+use Rattle.planning.proofs.Scan.{EveryFrom}
+use Rattle.lent_lists.specs.Lists.{entry_right}
 use Rattle.lent_lists.proofs.entries_right.Given as goal
 
 abbrev pub invariant-loop-k : goal.invariant-loop-k

@@ -1,4 +1,3 @@
-use borrow.Author.Rules.{rules}
 use borrow.Author.Tests.{lt-ltb}
 use Rattle.planning.proofs.Guards.{tests, and_go, and_stop, ltb_both}
 use mathlib.Core.Path.{refl, sym, ap, ◌∙◌}

@@ -2,7 +2,6 @@ use mathlib.Core.Path.{refl}
 use borrow.Author.Tests.{le-leb, lt-leb}
 use Rattle.planning.proofs.Guards.{wrong, right, and_go, and_stop}
 use Rattle.lent_lists.specs.Lists.{listed}
-use borrow.Author.Rules.{rules}
 use Rattle.lent_lists.proofs.listed.Goals as goal
 
 pub returns-then-bit-count : goal.returns-then-bit-count

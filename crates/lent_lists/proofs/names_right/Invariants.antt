@@ -1,8 +1,6 @@
 use Prim.Native.Nat.{◌-◌}
-use native.Mathlib.Omega.{arith}
-use Rattle.planning.proofs.Guards.{wrong, right}
-use Rattle.planning.proofs.Scan.{EveryFrom, every_none, every_more, every_stop, every_done}
-use Rattle.lent_lists.specs.Lists.{set_right, names_right}
+use Rattle.planning.proofs.Scan.{EveryFrom}
+use Rattle.lent_lists.specs.Lists.{set_right}
 use Rattle.lent_lists.proofs.names_right.Given as goal
 
 abbrev pub invariant-loop-i : goal.invariant-loop-i

@@ -1,4 +1,3 @@
-use borrow.Author.Rules.{rules}
 use Rattle.lent_lists.specs.Lists.{set_right}
 use Rattle.lent_lists.proofs.set_right.Goals as goal
 

@@ -1,4 +1,3 @@
-use borrow.Author.Rules.{rules}
 use Rattle.shift_time.proofs.time_of.Goals as goal
 
 pub returns : goal.returns

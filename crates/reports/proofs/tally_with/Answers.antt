@@ -1,0 +1,6 @@
+use borrow.Author.Rules.{rules}
+use Rattle.reports.proofs.tally_with.Goals as goal
+
+pub returns : goal.returns
+returns c =
+    rw c.time_of-time.ensures

@@ -1,0 +1,12 @@
+use native.Mathlib.Omega.{arith}
+use Prim.Native.Nat.{◌-◌}
+use Rattle.states_worth.proofs.Sums.{SumTo, sum_none, sum_more, sum_done, gain_small}
+use Rattle.states_worth.proofs.worth.Given as goal
+
+abbrev pub invariant-loop-j : goal.invariant-loop-j
+invariant-loop-j l =
+    SumTo l.table l.n l.s l.sum l.j
+
+abbrev pub decreases-loop-j : goal.decreases-loop-j
+decreases-loop-j l =
+    l.n - l.j
