@@ -13,7 +13,7 @@ use Rattle.planning.specs.Connectives.{◌or◌, pick}
 use Rattle.planning.specs.Coding.{bits}
 use Rattle.planning.specs.Scan.{first_bad}
 use Rattle.task.specs.Limits.{header_bytes, variable_bytes, operator_bytes, term_bytes, most_variables, most_operators, most_terms, operator_places, term_places, most_bits}
-use Rattle.task.specs.Format.{variables, operators, terms, variables_at, operators_at, terms_at, operator_record, term_record, fact_variable, preconditions, effects, term_count, term_facts}
+use Rattle.task.specs.Format.{variables, operators, terms, variables_at, operators_at, terms_at, operator_record, term_record, fact_variable, term_count, term_facts}
 use Rattle.task.specs.Decode.{sizes}
 use Rattle.task.specs.Check.{counts_right, section_inside, all_inside, all_apart, header_fault, names_variable, has_value, rises, used_right, unused_right, fact_right, facts_right, variable_right, cost_right, fact_counts_right, preconditions_right, effects_right, operator_record_right, operator_right, term_counts_right, term_facts_right, term_record_right, term_right, first_bad_variable, first_bad_operator, first_bad_term, check_terms, check_operators, check_bits, check_variables, check_of, accepted}
 use Rattle.task.specs.Sound.{RightVariable, RightFact, RightRow, RightOperator, RightTerm, Sound}

@@ -1,4 +1,3 @@
-use borrow.Author.Rules.{rules}
 use Rattle.task.proofs.Goodness.{bound_is}
 use Rattle.search_answer.proofs.figures.Goals as goal
 

@@ -1,4 +1,3 @@
-use borrow.Author.Rules.{rules}
 use native.Mathlib.Omega.{arith}
 use Rattle.task.specs.Check.{check_of}
 use Rattle.task_check.proofs.Laws.{answers, refuses, accepts}

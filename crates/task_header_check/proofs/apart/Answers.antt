@@ -1,4 +1,3 @@
-use borrow.Author.Rules.{rules}
 use Rattle.task.specs.Check.{apart}
 use Rattle.planning.proofs.Guards.{tests}
 use Rattle.task_header_check.proofs.apart.Goals as goal

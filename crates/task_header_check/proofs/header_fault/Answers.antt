@@ -1,4 +1,3 @@
-use borrow.Author.Rules.{rules}
 use Rattle.planning.proofs.Guards.{guards}
 use Rattle.task.specs.Check.{header_fault}
 use Rattle.task_header_check.proofs.header_fault.Goals as goal

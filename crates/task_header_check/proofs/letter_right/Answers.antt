@@ -1,4 +1,3 @@
-use borrow.Author.Rules.{rules}
 use Rattle.task.specs.Check.{letter_right}
 use Rattle.planning.proofs.Guards.{tests}
 use Rattle.task_header_check.proofs.letter_right.Goals as goal

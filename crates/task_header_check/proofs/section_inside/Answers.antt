@@ -1,4 +1,3 @@
-use borrow.Author.Rules.{rules}
 use Rattle.planning.proofs.Guards.{tests}
 use Rattle.task.specs.Check.{section_inside}
 use Rattle.task_header_check.proofs.section_inside.Goals as goal

@@ -1,4 +1,3 @@
-use borrow.Author.Rules.{rules}
 use Rattle.task.specs.Check.{fact_counts_right}
 use Rattle.planning.proofs.Guards.{tests}
 use Rattle.task_record_check.proofs.fact_counts_right.Goals as goal

@@ -1,10 +1,7 @@
 use Prim.Native.Nat.{◌-◌}
-use native.Mathlib.Omega.{arith}
-use borrow.Author.Rules.{rules}
 use Rattle.task.specs.Format.{operators}
 use Rattle.task.specs.Check.{operator_right}
-use Rattle.planning.proofs.Guards.{wrong, right}
-use Rattle.planning.proofs.Scan.{BadFrom, bad_none, bad_more, bad_stop, bad_done}
+use Rattle.planning.proofs.Scan.{BadFrom}
 use Rattle.task_record_check.proofs.first_bad_operator.Given as goal
 
 abbrev pub invariant-loop-o : goal.invariant-loop-o

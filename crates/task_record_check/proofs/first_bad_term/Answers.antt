@@ -1,10 +1,6 @@
-use Prim.Native.Nat.{◌-◌}
 use native.Mathlib.Omega.{arith}
-use borrow.Author.Rules.{rules}
-use Rattle.task.specs.Format.{terms}
-use Rattle.task.specs.Check.{term_right}
 use Rattle.planning.proofs.Guards.{wrong, right}
-use Rattle.planning.proofs.Scan.{BadFrom, bad_none, bad_more, bad_stop, bad_done}
+use Rattle.planning.proofs.Scan.{bad_none, bad_more, bad_stop, bad_done}
 use Rattle.task_record_check.proofs.first_bad_term.Goals as goal
 
 pub loop-t-init : goal.loop-t-init

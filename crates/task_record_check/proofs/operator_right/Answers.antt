@@ -1,4 +1,3 @@
-use borrow.Author.Rules.{rules}
 use mathlib.Core.Path.{ap, ◌∙◌}
 use Rattle.task.specs.Check.{operator_record_right, operator_right}
 use Rattle.task_record_check.proofs.operator_right.Goals as goal

@@ -1,4 +1,3 @@
-use borrow.Author.Rules.{rules}
 use Rattle.task.specs.Check.{term_record_right}
 use Rattle.planning.proofs.Guards.{tests}
 use Rattle.task_record_check.proofs.term_record_right.Goals as goal

@@ -1,4 +1,3 @@
-use borrow.Author.Rules.{rules}
 use mathlib.Core.Path.{ap, ◌∙◌}
 use Rattle.task.specs.Check.{term_record_right, term_right}
 use Rattle.task_record_check.proofs.term_right.Goals as goal

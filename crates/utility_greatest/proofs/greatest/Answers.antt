@@ -1,4 +1,3 @@
-use borrow.Author.Rules.{rules}
 use Rattle.utility.specs.Reading.{nodes}
 use Rattle.utility_greatest.proofs.Growing.{most_begins}
 use Rattle.utility_greatest.proofs.greatest.Goals as goal

@@ -1,4 +1,3 @@
-use borrow.Author.Rules.{rules}
 use native.Mathlib.Omega.{arith}
 use Rattle.utility.proofs.Pairs.{no_end}
 use Rattle.utility_greatest.proofs.Looking.{looked_none, looked_end, looked_recalled, looked_parted}

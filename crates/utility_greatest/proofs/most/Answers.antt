@@ -1,8 +1,7 @@
 use Prim.Native.Nat.{ℕ, ◌+◌, ◌<◌}
-use borrow.Author.Rules.{rules}
 use native.Mathlib.Omega.{arith}
 use mathlib.Core.Path.{refl, ◌∙◌}
-use Rattle.diagrams.specs.Store.{Table, tree}
+use Rattle.diagrams.specs.Store.{tree}
 use Rattle.diagrams.proofs.Entries.{tree_canon}
 use Rattle.diagram_loops.proofs.Stacks.{top}
 use Rattle.diagram_loops.proofs.Loops.{empty, Ready}
@@ -10,7 +9,7 @@ use Rattle.utility.specs.Within.{most_t}
 use Rattle.utility.specs.Reading.{nodes}
 use Rattle.utility_greatest.specs.Looking.{Looked}
 use Rattle.utility_greatest.proofs.Looking.{small}
-use Rattle.utility_greatest.proofs.Numbers.{above, up_left, down_left, Up, Down, DownOnto, Right, Going, Rising, down_same, rising_same, down_start, down_known, less_known, down_room, down_push, less_push, up_done, up_turn, less_turn, up_number, up_larger, less_larger, kept_ready}
+use Rattle.utility_greatest.proofs.Numbers.{above, Up, Down, Right, down_same, rising_same, down_start, down_known, less_known, down_room, down_push, less_push, up_done, up_turn, less_turn, up_number, up_larger, less_larger, kept_ready}
 use Rattle.utility_greatest.proofs.most.Goals as goal
 
 pub loop-r-init : goal.loop-r-init
@@ -87,11 +86,11 @@ bounds-stack-at-then-w c =
 
 pub loop-r-smaller : goal.loop-r-smaller
 loop-r-smaller c =
-    omega (arith, less_turn ((let up_at : Up ((let a = c.args in nodes a.bit.now a.low.now a.high.now a.count)) ((let a = c.args in nodes a.ubit.now a.ulow.now a.uhigh.now a.ucount)) ((most_t (tree ((let a = c.args in nodes a.bit.now a.low.now a.high.now a.count)) c.args.a) (tree ((let a = c.args in nodes a.ubit.now a.ulow.now a.uhigh.now a.ucount)) c.args.u))) c.loop-depth.stack c.loop-depth.depth c.loop-depth.r = c.loop-depth.invariant.up.keeps _ ((let known_at : Up ((let a = c.args in nodes a.bit.now a.low.now a.high.now a.count)) ((let a = c.args in nodes a.ubit.now a.ulow.now a.uhigh.now a.ucount)) ((most_t (tree ((let a = c.args in nodes a.bit.now a.low.now a.high.now a.count)) c.args.a) (tree ((let a = c.args in nodes a.ubit.now a.ulow.now a.uhigh.now a.ucount)) c.args.u))) c.loop-r-2.stack c.loop-r-2.depth c.look-e.result.name = down_known ((let down-at : Down ((let a = c.args in nodes a.bit.now a.low.now a.high.now a.count)) ((let a = c.args in nodes a.ubit.now a.ulow.now a.uhigh.now a.ucount)) ((most_t (tree ((let a = c.args in nodes a.bit.now a.low.now a.high.now a.count)) c.args.a) (tree ((let a = c.args in nodes a.ubit.now a.ulow.now a.uhigh.now a.ucount)) c.args.u))) c.loop-r-2.stack c.loop-r-2.depth c.loop-r-2.x c.loop-r-2.y = c.loop-r-2.invariant.keeps _ c.loop-r.invariant.down in down-at)) _ (((let looked : Looked ((let a = c.args in nodes a.bit.now a.low.now a.high.now a.count)) ((let a = c.args in nodes a.ubit.now a.ulow.now a.uhigh.now a.ucount)) (above (top c.loop-r-2.stack empty c.loop-r-2.depth)) c.loop-r-2.x c.loop-r-2.y c.look-e.result = let o = c.requires.store in c.look-e.ensures.at _ _ _ o.0 o.1 c.loop-r.invariant.memory.right ((let down-at : Down ((let a = c.args in nodes a.bit.now a.low.now a.high.now a.count)) ((let a = c.args in nodes a.ubit.now a.ulow.now a.uhigh.now a.ucount)) ((most_t (tree ((let a = c.args in nodes a.bit.now a.low.now a.high.now a.count)) c.args.a) (tree ((let a = c.args in nodes a.ubit.now a.ulow.now a.uhigh.now a.ucount)) c.args.u))) c.loop-r-2.stack c.loop-r-2.depth c.loop-r-2.x c.loop-r-2.y = c.loop-r-2.invariant.keeps _ c.loop-r.invariant.down in down-at)).names in looked)).shows c.if-e.true) in known_at)) in up_at)) c.if-depth-eq0.false c.if-w.true ((let smaller : (a :  ℕ) → (d :  ℕ) → a < ((let a = c.args in nodes a.bit.now a.low.now a.high.now a.count)).count + 2 → d < ((let a = c.args in nodes a.ubit.now a.ulow.now a.uhigh.now a.ucount)).count + 2 → most_t (tree ((let a = c.args in nodes a.bit.now a.low.now a.high.now a.count)) a) (tree ((let a = c.args in nodes a.ubit.now a.ulow.now a.uhigh.now a.ucount)) d) < 4294967295 = let o = c.requires.store in small ((let a = c.args in nodes a.bit.now a.low.now a.high.now a.count)) ((let a = c.args in nodes a.ubit.now a.ulow.now a.uhigh.now a.ucount)) o.0 o.1 (λ i. omega (arith, c.type_inv.ubit i)) in smaller)), c.loop-depth.invariant.up.falls, less_known ((let down-at : Down ((let a = c.args in nodes a.bit.now a.low.now a.high.now a.count)) ((let a = c.args in nodes a.ubit.now a.ulow.now a.uhigh.now a.ucount)) ((most_t (tree ((let a = c.args in nodes a.bit.now a.low.now a.high.now a.count)) c.args.a) (tree ((let a = c.args in nodes a.ubit.now a.ulow.now a.uhigh.now a.ucount)) c.args.u))) c.loop-r-2.stack c.loop-r-2.depth c.loop-r-2.x c.loop-r-2.y = c.loop-r-2.invariant.keeps _ c.loop-r.invariant.down in down-at)), c.loop-r-2.invariant.falls)
+    omega (arith, less_turn ((let up_at : Up ((let a = c.args in nodes a.bit.now a.low.now a.high.now a.count)) ((let a = c.args in nodes a.ubit.now a.ulow.now a.uhigh.now a.ucount)) ((most_t (tree ((let a = c.args in nodes a.bit.now a.low.now a.high.now a.count)) c.args.a) (tree ((let a = c.args in nodes a.ubit.now a.ulow.now a.uhigh.now a.ucount)) c.args.u))) c.loop-depth.stack c.loop-depth.depth c.loop-depth.r = c.loop-depth.invariant.up.keeps _ ((let known_at : Up ((let a = c.args in nodes a.bit.now a.low.now a.high.now a.count)) ((let a = c.args in nodes a.ubit.now a.ulow.now a.uhigh.now a.ucount)) ((most_t (tree ((let a = c.args in nodes a.bit.now a.low.now a.high.now a.count)) c.args.a) (tree ((let a = c.args in nodes a.ubit.now a.ulow.now a.uhigh.now a.ucount)) c.args.u))) c.loop-r-2.stack c.loop-r-2.depth c.look-e.result.name = down_known ((let down-at : Down ((let a = c.args in nodes a.bit.now a.low.now a.high.now a.count)) ((let a = c.args in nodes a.ubit.now a.ulow.now a.uhigh.now a.ucount)) ((most_t (tree ((let a = c.args in nodes a.bit.now a.low.now a.high.now a.count)) c.args.a) (tree ((let a = c.args in nodes a.ubit.now a.ulow.now a.uhigh.now a.ucount)) c.args.u))) c.loop-r-2.stack c.loop-r-2.depth c.loop-r-2.x c.loop-r-2.y = c.loop-r-2.invariant.keeps _ c.loop-r.invariant.down in down-at)) _ (((let looked : Looked ((let a = c.args in nodes a.bit.now a.low.now a.high.now a.count)) ((let a = c.args in nodes a.ubit.now a.ulow.now a.uhigh.now a.ucount)) (above (top c.loop-r-2.stack empty c.loop-r-2.depth)) c.loop-r-2.x c.loop-r-2.y c.look-e.result = let o = c.requires.store in c.look-e.ensures.at _ _ _ o.0 o.1 c.loop-r.invariant.memory.right ((let down-at : Down ((let a = c.args in nodes a.bit.now a.low.now a.high.now a.count)) ((let a = c.args in nodes a.ubit.now a.ulow.now a.uhigh.now a.ucount)) ((most_t (tree ((let a = c.args in nodes a.bit.now a.low.now a.high.now a.count)) c.args.a) (tree ((let a = c.args in nodes a.ubit.now a.ulow.now a.uhigh.now a.ucount)) c.args.u))) c.loop-r-2.stack c.loop-r-2.depth c.loop-r-2.x c.loop-r-2.y = c.loop-r-2.invariant.keeps _ c.loop-r.invariant.down in down-at)).names in looked)).shows c.if-e.true) in known_at)) in up_at)) c.if-depth-eq0.false c.if-w.true ((let smaller : (a : ℕ) → (d : ℕ) → a < ((let a = c.args in nodes a.bit.now a.low.now a.high.now a.count)).count + 2 → d < ((let a = c.args in nodes a.ubit.now a.ulow.now a.uhigh.now a.ucount)).count + 2 → most_t (tree ((let a = c.args in nodes a.bit.now a.low.now a.high.now a.count)) a) (tree ((let a = c.args in nodes a.ubit.now a.ulow.now a.uhigh.now a.ucount)) d) < 4294967295 = let o = c.requires.store in small ((let a = c.args in nodes a.bit.now a.low.now a.high.now a.count)) ((let a = c.args in nodes a.ubit.now a.ulow.now a.uhigh.now a.ucount)) o.0 o.1 (λ i. omega (arith, c.type_inv.ubit i)) in smaller)), c.loop-depth.invariant.up.falls, less_known ((let down-at : Down ((let a = c.args in nodes a.bit.now a.low.now a.high.now a.count)) ((let a = c.args in nodes a.ubit.now a.ulow.now a.uhigh.now a.ucount)) ((most_t (tree ((let a = c.args in nodes a.bit.now a.low.now a.high.now a.count)) c.args.a) (tree ((let a = c.args in nodes a.ubit.now a.ulow.now a.uhigh.now a.ucount)) c.args.u))) c.loop-r-2.stack c.loop-r-2.depth c.loop-r-2.x c.loop-r-2.y = c.loop-r-2.invariant.keeps _ c.loop-r.invariant.down in down-at)), c.loop-r-2.invariant.falls)
 
 pub loop-r-preserved : goal.loop-r-preserved
 loop-r-preserved c =
-    record { down = up_turn ((let up_at : Up ((let a = c.args in nodes a.bit.now a.low.now a.high.now a.count)) ((let a = c.args in nodes a.ubit.now a.ulow.now a.uhigh.now a.ucount)) ((most_t (tree ((let a = c.args in nodes a.bit.now a.low.now a.high.now a.count)) c.args.a) (tree ((let a = c.args in nodes a.ubit.now a.ulow.now a.uhigh.now a.ucount)) c.args.u))) c.loop-depth.stack c.loop-depth.depth c.loop-depth.r = c.loop-depth.invariant.up.keeps _ ((let known_at : Up ((let a = c.args in nodes a.bit.now a.low.now a.high.now a.count)) ((let a = c.args in nodes a.ubit.now a.ulow.now a.uhigh.now a.ucount)) ((most_t (tree ((let a = c.args in nodes a.bit.now a.low.now a.high.now a.count)) c.args.a) (tree ((let a = c.args in nodes a.ubit.now a.ulow.now a.uhigh.now a.ucount)) c.args.u))) c.loop-r-2.stack c.loop-r-2.depth c.look-e.result.name = down_known ((let down-at : Down ((let a = c.args in nodes a.bit.now a.low.now a.high.now a.count)) ((let a = c.args in nodes a.ubit.now a.ulow.now a.uhigh.now a.ucount)) ((most_t (tree ((let a = c.args in nodes a.bit.now a.low.now a.high.now a.count)) c.args.a) (tree ((let a = c.args in nodes a.ubit.now a.ulow.now a.uhigh.now a.ucount)) c.args.u))) c.loop-r-2.stack c.loop-r-2.depth c.loop-r-2.x c.loop-r-2.y = c.loop-r-2.invariant.keeps _ c.loop-r.invariant.down in down-at)) _ (((let looked : Looked ((let a = c.args in nodes a.bit.now a.low.now a.high.now a.count)) ((let a = c.args in nodes a.ubit.now a.ulow.now a.uhigh.now a.ucount)) (above (top c.loop-r-2.stack empty c.loop-r-2.depth)) c.loop-r-2.x c.loop-r-2.y c.look-e.result = let o = c.requires.store in c.look-e.ensures.at _ _ _ o.0 o.1 c.loop-r.invariant.memory.right ((let down-at : Down ((let a = c.args in nodes a.bit.now a.low.now a.high.now a.count)) ((let a = c.args in nodes a.ubit.now a.ulow.now a.uhigh.now a.ucount)) ((most_t (tree ((let a = c.args in nodes a.bit.now a.low.now a.high.now a.count)) c.args.a) (tree ((let a = c.args in nodes a.ubit.now a.ulow.now a.uhigh.now a.ucount)) c.args.u))) c.loop-r-2.stack c.loop-r-2.depth c.loop-r-2.x c.loop-r-2.y = c.loop-r-2.invariant.keeps _ c.loop-r.invariant.down in down-at)).names in looked)).shows c.if-e.true) in known_at)) in up_at)) c.if-depth-eq0.false c.if-w.true ((let smaller : (a :  ℕ) → (d :  ℕ) → a < ((let a = c.args in nodes a.bit.now a.low.now a.high.now a.count)).count + 2 → d < ((let a = c.args in nodes a.ubit.now a.ulow.now a.uhigh.now a.ucount)).count + 2 → most_t (tree ((let a = c.args in nodes a.bit.now a.low.now a.high.now a.count)) a) (tree ((let a = c.args in nodes a.ubit.now a.ulow.now a.uhigh.now a.ucount)) d) < 4294967295 = let o = c.requires.store in small ((let a = c.args in nodes a.bit.now a.low.now a.high.now a.count)) ((let a = c.args in nodes a.ubit.now a.ulow.now a.uhigh.now a.ucount)) o.0 o.1 (λ i. omega (arith, c.type_inv.ubit i)) in smaller)); memory = (let ready_at : Ready (Right ((let a = c.args in nodes a.ubit.now a.ulow.now a.uhigh.now a.ucount)) c.args.stamp) c.slots-z.result.n ((let a = c.args in nodes a.bit.now a.low.now a.high.now a.count)) c.loop-depth.memo = c.loop-depth.invariant.memory c.loop-r.invariant.memory in ready_at); kept = c.loop-depth.invariant.kept ∙ c.loop-r.invariant.kept }
+    record { down = up_turn ((let up_at : Up ((let a = c.args in nodes a.bit.now a.low.now a.high.now a.count)) ((let a = c.args in nodes a.ubit.now a.ulow.now a.uhigh.now a.ucount)) ((most_t (tree ((let a = c.args in nodes a.bit.now a.low.now a.high.now a.count)) c.args.a) (tree ((let a = c.args in nodes a.ubit.now a.ulow.now a.uhigh.now a.ucount)) c.args.u))) c.loop-depth.stack c.loop-depth.depth c.loop-depth.r = c.loop-depth.invariant.up.keeps _ ((let known_at : Up ((let a = c.args in nodes a.bit.now a.low.now a.high.now a.count)) ((let a = c.args in nodes a.ubit.now a.ulow.now a.uhigh.now a.ucount)) ((most_t (tree ((let a = c.args in nodes a.bit.now a.low.now a.high.now a.count)) c.args.a) (tree ((let a = c.args in nodes a.ubit.now a.ulow.now a.uhigh.now a.ucount)) c.args.u))) c.loop-r-2.stack c.loop-r-2.depth c.look-e.result.name = down_known ((let down-at : Down ((let a = c.args in nodes a.bit.now a.low.now a.high.now a.count)) ((let a = c.args in nodes a.ubit.now a.ulow.now a.uhigh.now a.ucount)) ((most_t (tree ((let a = c.args in nodes a.bit.now a.low.now a.high.now a.count)) c.args.a) (tree ((let a = c.args in nodes a.ubit.now a.ulow.now a.uhigh.now a.ucount)) c.args.u))) c.loop-r-2.stack c.loop-r-2.depth c.loop-r-2.x c.loop-r-2.y = c.loop-r-2.invariant.keeps _ c.loop-r.invariant.down in down-at)) _ (((let looked : Looked ((let a = c.args in nodes a.bit.now a.low.now a.high.now a.count)) ((let a = c.args in nodes a.ubit.now a.ulow.now a.uhigh.now a.ucount)) (above (top c.loop-r-2.stack empty c.loop-r-2.depth)) c.loop-r-2.x c.loop-r-2.y c.look-e.result = let o = c.requires.store in c.look-e.ensures.at _ _ _ o.0 o.1 c.loop-r.invariant.memory.right ((let down-at : Down ((let a = c.args in nodes a.bit.now a.low.now a.high.now a.count)) ((let a = c.args in nodes a.ubit.now a.ulow.now a.uhigh.now a.ucount)) ((most_t (tree ((let a = c.args in nodes a.bit.now a.low.now a.high.now a.count)) c.args.a) (tree ((let a = c.args in nodes a.ubit.now a.ulow.now a.uhigh.now a.ucount)) c.args.u))) c.loop-r-2.stack c.loop-r-2.depth c.loop-r-2.x c.loop-r-2.y = c.loop-r-2.invariant.keeps _ c.loop-r.invariant.down in down-at)).names in looked)).shows c.if-e.true) in known_at)) in up_at)) c.if-depth-eq0.false c.if-w.true ((let smaller : (a : ℕ) → (d : ℕ) → a < ((let a = c.args in nodes a.bit.now a.low.now a.high.now a.count)).count + 2 → d < ((let a = c.args in nodes a.ubit.now a.ulow.now a.uhigh.now a.ucount)).count + 2 → most_t (tree ((let a = c.args in nodes a.bit.now a.low.now a.high.now a.count)) a) (tree ((let a = c.args in nodes a.ubit.now a.ulow.now a.uhigh.now a.ucount)) d) < 4294967295 = let o = c.requires.store in small ((let a = c.args in nodes a.bit.now a.low.now a.high.now a.count)) ((let a = c.args in nodes a.ubit.now a.ulow.now a.uhigh.now a.ucount)) o.0 o.1 (λ i. omega (arith, c.type_inv.ubit i)) in smaller)); memory = (let ready_at : Ready (Right ((let a = c.args in nodes a.ubit.now a.ulow.now a.uhigh.now a.ucount)) c.args.stamp) c.slots-z.result.n ((let a = c.args in nodes a.bit.now a.low.now a.high.now a.count)) c.loop-depth.memo = c.loop-depth.invariant.memory c.loop-r.invariant.memory in ready_at); kept = c.loop-depth.invariant.kept ∙ c.loop-r.invariant.kept }
 
 pub keep-requires : goal.keep-requires
 keep-requires c =

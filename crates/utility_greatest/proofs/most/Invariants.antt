@@ -1,16 +1,7 @@
-use Prim.Native.Nat.{ℕ, ◌+◌, ◌<◌}
-use borrow.Author.Rules.{rules}
-use native.Mathlib.Omega.{arith}
-use mathlib.Core.Path.{refl, ◌∙◌}
-use Rattle.diagrams.specs.Store.{Table, tree}
-use Rattle.diagrams.proofs.Entries.{tree_canon}
-use Rattle.diagram_loops.proofs.Stacks.{top}
-use Rattle.diagram_loops.proofs.Loops.{empty, Ready}
+use Rattle.diagrams.specs.Store.{tree}
 use Rattle.utility.specs.Within.{most_t}
 use Rattle.utility.specs.Reading.{nodes}
-use Rattle.utility_greatest.specs.Looking.{Looked}
-use Rattle.utility_greatest.proofs.Looking.{small}
-use Rattle.utility_greatest.proofs.Numbers.{above, up_left, down_left, Up, Down, DownOnto, Right, Going, Rising, down_same, rising_same, down_start, down_known, less_known, down_room, down_push, less_push, up_done, up_turn, less_turn, up_number, up_larger, less_larger, kept_ready}
+use Rattle.utility_greatest.proofs.Numbers.{up_left, down_left, DownOnto, Going, Rising}
 use Rattle.utility_greatest.proofs.most.Given as goal
 
 abbrev pub invariant-loop-r-2 : goal.invariant-loop-r-2

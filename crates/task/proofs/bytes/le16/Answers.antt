@@ -1,4 +1,3 @@
-use borrow.Author.Rules.{rules}
 use native.Mathlib.Omega.{arith}
 use Rattle.task.specs.Bytes.{le16}
 use Rattle.task.proofs.bytes.le16.Goals as goal

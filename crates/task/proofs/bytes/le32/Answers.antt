@@ -1,4 +1,3 @@
-use borrow.Author.Rules.{rules}
 use native.Mathlib.Omega.{arith}
 use Rattle.task.specs.Bytes.{le32}
 use Rattle.task.proofs.bytes.le32.Goals as goal

@@ -1,4 +1,3 @@
-use borrow.Author.Rules.{rules}
 use native.Mathlib.Omega.{arith}
 use Rattle.task.proofs.Laws.{part_in, part_out}
 use Rattle.task.proofs.bytes.part.Goals as goal

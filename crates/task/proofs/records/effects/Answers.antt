@@ -1,4 +1,3 @@
-use borrow.Author.Rules.{rules}
 use Rattle.task.proofs.Laws.{effects_in, effects_out}
 use Rattle.task.proofs.records.effects.Goals as goal
 

@@ -1,4 +1,3 @@
-use borrow.Author.Rules.{rules}
 use Rattle.task.specs.Format.{operator_record}
 use Rattle.task.proofs.records.operator_record.Goals as goal
 

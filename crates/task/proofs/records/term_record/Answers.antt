@@ -1,4 +1,3 @@
-use borrow.Author.Rules.{rules}
 use Rattle.task.specs.Format.{term_record}
 use Rattle.task.proofs.records.term_record.Goals as goal
 

@@ -1,4 +1,3 @@
-use borrow.Author.Rules.{rules}
 use Rattle.task.specs.Format.{variable_record}
 use Rattle.task.proofs.records.variable_record.Goals as goal
 

@@ -1,4 +1,3 @@
-use borrow.Author.Rules.{rules}
 use Rattle.task.specs.Check.{fact_right}
 use Rattle.planning.proofs.Guards.{tests}
 use Rattle.task_record_check.proofs.facts.fact_right.Goals as goal

@@ -1,8 +1,7 @@
-use Prim.Native.Nat.{◌-◌}
 use native.Mathlib.Omega.{arith}
-use Rattle.task.specs.Check.{fact_right, facts_right}
+use Rattle.task.specs.Check.{facts_right}
 use Rattle.planning.proofs.Guards.{wrong, right}
-use Rattle.planning.proofs.Scan.{EveryFrom, every_none, every_more, every_stop, every_done}
+use Rattle.planning.proofs.Scan.{every_none, every_more, every_stop, every_done}
 use Rattle.task_record_check.proofs.facts.facts_right.Goals as goal
 
 pub loop-k-init : goal.loop-k-init

@@ -1,8 +1,6 @@
 use Prim.Native.Nat.{◌-◌}
-use native.Mathlib.Omega.{arith}
-use Rattle.task.specs.Check.{fact_right, facts_right}
-use Rattle.planning.proofs.Guards.{wrong, right}
-use Rattle.planning.proofs.Scan.{EveryFrom, every_none, every_more, every_stop, every_done}
+use Rattle.task.specs.Check.{fact_right}
+use Rattle.planning.proofs.Scan.{EveryFrom}
 use Rattle.task_record_check.proofs.facts.facts_right.Given as goal
 
 abbrev pub invariant-loop-k : goal.invariant-loop-k

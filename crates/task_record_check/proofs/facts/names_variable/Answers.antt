@@ -1,4 +1,3 @@
-use borrow.Author.Rules.{rules}
 use Rattle.task.specs.Check.{names_variable}
 use Rattle.planning.proofs.Guards.{tests}
 use Rattle.task_record_check.proofs.facts.names_variable.Goals as goal

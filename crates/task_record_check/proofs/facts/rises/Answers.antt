@@ -1,4 +1,3 @@
-use borrow.Author.Rules.{rules}
 use Rattle.task.specs.Check.{rises}
 use Rattle.planning.proofs.Guards.{tests}
 use Rattle.task_record_check.proofs.facts.rises.Goals as goal

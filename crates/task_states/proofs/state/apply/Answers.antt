@@ -1,8 +1,6 @@
-use Prim.Native.Nat.{◌-◌}
-use mathlib.Core.Path.{◌≡◌, refl, ◌∙◌}
+use mathlib.Core.Path.{refl, ◌∙◌}
 use native.Mathlib.Omega.{arith}
-use lib.ListN.{length}
-use Rattle.task_states.proofs.StateLaws.{AppliedTo, applied_none, applied_more, applied_done}
+use Rattle.task_states.proofs.StateLaws.{applied_none, applied_more, applied_done}
 use Rattle.task_states.proofs.state.apply.Goals as goal
 
 pub loop-k-init : goal.loop-k-init

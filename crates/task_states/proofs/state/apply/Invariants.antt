@@ -1,8 +1,7 @@
 use Prim.Native.Nat.{◌-◌}
-use mathlib.Core.Path.{◌≡◌, refl, ◌∙◌}
-use native.Mathlib.Omega.{arith}
+use mathlib.Core.Path.{◌≡◌}
 use lib.ListN.{length}
-use Rattle.task_states.proofs.StateLaws.{AppliedTo, applied_none, applied_more, applied_done}
+use Rattle.task_states.proofs.StateLaws.{AppliedTo}
 use Rattle.task_states.proofs.state.apply.Given as goal
 
 abbrev pub invariant-loop-k : goal.invariant-loop-k

@@ -1,9 +1,7 @@
-use Prim.Native.Nat.{◌-◌}
 use mathlib.Core.Path.{◌∙◌}
 use native.Mathlib.Omega.{arith}
-use Rattle.task_states.specs.States.{met}
 use Rattle.planning.proofs.Guards.{wrong, right}
-use Rattle.planning.proofs.Scan.{EveryFrom, every_none, every_more, every_stop, every_done}
+use Rattle.planning.proofs.Scan.{every_none, every_more, every_stop, every_done}
 use Rattle.task_states.proofs.StateLaws.{holds_every}
 use Rattle.task_states.proofs.state.holds.Goals as goal
 

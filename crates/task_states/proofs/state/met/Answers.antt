@@ -1,4 +1,3 @@
-use borrow.Author.Rules.{rules}
 use Rattle.planning.specs.Model.{value_of}
 use Rattle.task.specs.Bytes.{byte}
 use Rattle.task_states.specs.States.{met}

@@ -1,4 +1,3 @@
-use borrow.Author.Rules.{rules}
 use Rattle.task_states.proofs.StateLaws.{put_out}
 use Rattle.task_states.proofs.state.put.Goals as goal
 

@@ -1,8 +1,6 @@
-use Prim.Native.Nat.{◌-◌, ◌≤◌}
-use mathlib.Core.Path.{◌≡◌, refl}
+use mathlib.Core.Path.{refl}
 use native.Mathlib.Omega.{arith}
-use lib.ListN.{length, take, length-set}
-use Rattle.task.specs.Format.{start_value}
+use lib.ListN.{length-set}
 use Rattle.planning.specs.Scan.{tab}
 use Rattle.task_states.proofs.StateLaws.{start_more, start_done}
 use Rattle.task_states.proofs.state.start.Goals as goal
@@ -33,10 +31,10 @@ loop-v-smaller c =
     simp length-set (omega arith)
 
 pub loop-v-preserved : goal.loop-v-preserved
-loop-v-preserved c =
-    (
+loop-v-preserved c = (
   start_more _ _ _ _ c.loop-v-test.true c.loop-v.invariant.0 c.start_value.ensures.is,
-  (simp length-set (omega arith), simp length-set c.loop-v.invariant.1.1),)
+  (simp length-set (omega arith), simp length-set c.loop-v.invariant.1.1),
+)
 
 pub returns : goal.returns
 returns c =

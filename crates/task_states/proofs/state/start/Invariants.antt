@@ -1,10 +1,8 @@
 use Prim.Native.Nat.{◌-◌, ◌≤◌}
-use mathlib.Core.Path.{◌≡◌, refl}
-use native.Mathlib.Omega.{arith}
-use lib.ListN.{length, take, length-set}
+use mathlib.Core.Path.{◌≡◌}
+use lib.ListN.{length, take}
 use Rattle.task.specs.Format.{start_value}
 use Rattle.planning.specs.Scan.{tab}
-use Rattle.task_states.proofs.StateLaws.{start_more, start_done}
 use Rattle.task_states.proofs.state.start.Given as goal
 
 abbrev pub invariant-loop-v : goal.invariant-loop-v

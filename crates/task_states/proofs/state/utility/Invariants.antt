@@ -1,9 +1,6 @@
 use Prim.Native.Nat.{◌-◌, ◌*◌, ◌≤◌}
-use native.Mathlib.Omega.{arith}
-use borrow.Author.Rules.{rules}
 use Rattle.task.specs.Format.{terms}
-use Rattle.task.specs.Decode.{task_of}
-use Rattle.task_states.proofs.StateLaws.{SumTo, sum_none, sum_more, sum_done}
+use Rattle.task_states.proofs.StateLaws.{SumTo}
 use Rattle.task_states.proofs.state.utility.Given as goal
 
 abbrev pub invariant-loop-t : goal.invariant-loop-t
