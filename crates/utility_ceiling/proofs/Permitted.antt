@@ -9,7 +9,6 @@ use lib.Dec.{T, ltb, ltb→lt}
 use lib.ListN.{length, take, drop, length-drop, take-append-drop}
 use lib.Seq.{take_at, drop_at, length-take-le}
 use borrow.Author.Tests.{lt-ltb}
-use Rattle.planning.specs.Connectives.{◌and◌}
 use Rattle.planning.specs.Model.{Task}
 use Rattle.planning.specs.Coding.{width, bits, bin, code, number, values, Valid}
 use Rattle.planning.specs.Good.{Good}

@@ -9,7 +9,7 @@ use Rattle.planning.specs.Scan.{every}
 use Rattle.planning.proofs.Tables.{tab_same}
 use Rattle.planning.proofs.Scan.{first_same}
 use Rattle.task.specs.Limits.{operator_places, term_places}
-use Rattle.task.specs.Format.{variables, operators, terms, bound, variable_record, operator_record, term_record, size, start_value, preconditions, precondition_count, effects, effect_count, term_facts, term_count, fact_variable}
+use Rattle.task.specs.Format.{variables, operators, terms, variable_record, operator_record, term_record, size, start_value, preconditions, precondition_count, effects, effect_count, term_facts, term_count, fact_variable}
 use Rattle.task.specs.Decode.{sizes, task_of, operator_in, term_in}
 use Rattle.task.specs.Check.{names_variable, has_value, rises, used_right, fact_right, facts_right, variable_right, preconditions_right, effects_right, operator_record_right, operator_right, term_facts_right, term_record_right, term_right, header_fault, check_of}
 use Rattle.writer.specs.Canonical.{sections, begin, counts, offsets, header, written}

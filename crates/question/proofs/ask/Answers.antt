@@ -10,7 +10,6 @@ use Rattle.question.specs.Question.{state_right}
 use Rattle.question.proofs.States.{state_length}
 use Rattle.question.proofs.Walking.{pair_sets}
 use Rattle.question.proofs.Asking.{ask_12_pairs, ask_12, ask_20, ask_21, ask_place}
-use borrow.Author.Rules.{rules}
 use Rattle.std.proofs.lemmas.Bool.{not_from_false, not_from_true}
 use Rattle.question.proofs.ask.Goals as goal
 

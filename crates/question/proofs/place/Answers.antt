@@ -1,9 +1,7 @@
-use Prim.Native.Nat.{◌-◌}
 use mathlib.Core.Path.{sym, ◌∙◌}
 use native.Mathlib.Omega.{arith}
-use Rattle.diagrams.specs.Tree.{trees}
 use Rattle.question.specs.PairSets.{held_at}
-use Rattle.question.proofs.Places.{LeftFrom, place_none, place_more, place_stop, place_done}
+use Rattle.question.proofs.Places.{place_none, place_more, place_stop, place_done}
 use Rattle.question.proofs.place.Goals as goal
 
 pub loop-i-init : goal.loop-i-init

@@ -1,6 +1,5 @@
 use Rattle.task_check.proofs.Laws.{told_accepted, told_refused}
 use Rattle.question.proofs.Asking.{file_refused, asked_is}
-use borrow.Author.Rules.{rules}
 use Rattle.question.proofs.question.Goals as goal
 
 pub returns-in-Refused : goal.returns-in-Refused

@@ -1,13 +1,10 @@
-use Prim.Native.Nat.{◌-◌, ◌<◌}
-use mathlib.Core.Path.{◌≡◌, refl, sym, ◌∙◌}
+use mathlib.Core.Path.{refl, sym, ◌∙◌}
 use native.Mathlib.Omega.{arith}
 use borrow.Author.Tests.{eq-eqb, ne_eqb}
-use lib.ListN.{length}
 use Rattle.planning.proofs.Guards.{wrong, right, and_go, and_stop}
-use Rattle.planning.proofs.Scan.{EveryFrom, every_none, every_more, every_stop, every_done}
-use Rattle.task.specs.Decode.{sizes}
+use Rattle.planning.proofs.Scan.{every_none, every_more, every_stop, every_done}
 use Rattle.task.proofs.Goodness.{length_sizes}
-use Rattle.question.specs.Question.{value_right, state_right}
+use Rattle.question.specs.Question.{state_right}
 use Rattle.std.proofs.lemmas.Bool.{not_from_false, not_from_true}
 use Rattle.question.proofs.state_right.Goals as goal
 

@@ -1,13 +1,9 @@
 use Prim.Native.Nat.{◌-◌, ◌<◌}
-use mathlib.Core.Path.{◌≡◌, refl, sym, ◌∙◌}
-use native.Mathlib.Omega.{arith}
-use borrow.Author.Tests.{eq-eqb, ne_eqb}
+use mathlib.Core.Path.{◌≡◌}
 use lib.ListN.{length}
-use Rattle.planning.proofs.Guards.{wrong, right, and_go, and_stop}
-use Rattle.planning.proofs.Scan.{EveryFrom, every_none, every_more, every_stop, every_done}
+use Rattle.planning.proofs.Scan.{EveryFrom}
 use Rattle.task.specs.Decode.{sizes}
-use Rattle.task.proofs.Goodness.{length_sizes}
-use Rattle.question.specs.Question.{value_right, state_right}
+use Rattle.question.specs.Question.{value_right}
 use Rattle.question.proofs.state_right.Given as goal
 
 abbrev pub invariant-loop-v : goal.invariant-loop-v

@@ -1,5 +1,4 @@
 use Rattle.question.proofs.States.{value_is}
-use borrow.Author.Rules.{rules}
 use Rattle.question.proofs.value_right.Goals as goal
 
 pub size-requires : goal.size-requires

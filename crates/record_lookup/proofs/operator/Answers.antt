@@ -1,6 +1,5 @@
 use mathlib.Core.Path.{◌∙◌}
 use native.Mathlib.Omega.{arith}
-use borrow.Author.Rules.{rules}
 use Rattle.planning.proofs.Guards.{wrong, right}
 use Rattle.record_lookup.proofs.Laws.{part_refused, part_none, part_record}
 use Rattle.std.proofs.lemmas.Bool.{not_from_false, not_from_true}

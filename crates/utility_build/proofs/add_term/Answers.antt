@@ -1,6 +1,4 @@
-use borrow.Author.Rules.{rules}
 use native.Mathlib.Omega.{arith}
-use mathlib.Core.Path.{◌∙◌}
 use Rattle.diagrams.specs.Store.{table, blank}
 use Rattle.diagrams.proofs.Memos.{stamp_fresh}
 use Rattle.diagrams.proofs.Rows.{widened_memo}

@@ -1,12 +1,10 @@
-use borrow.Author.Rules.{rules}
 use native.Mathlib.Omega.{arith}
-use mathlib.Core.Path.{◌≡◌, refl, ◌∙◌}
-use Prim.Native.Nat.{◌-◌, ◌<◌}
-use lib.ListN.{length}
-use Rattle.diagrams.specs.Store.{Table, table}
+use mathlib.Core.Path.{refl, ◌∙◌}
+use Prim.Native.Nat.{◌<◌}
+use Rattle.diagrams.specs.Store.{table}
 use Rattle.task.specs.Format.{terms}
 use Rattle.utility_build.proofs.Terms.{term_small}
-use Rattle.utility_build.proofs.Stages.{TermsAdded, added_none, added_end, added_full, added_next}
+use Rattle.utility_build.proofs.Stages.{added_none, added_end, added_full, added_next}
 use Rattle.utility_build.proofs.add_terms.Goals as goal
 
 pub loop-k-init : goal.loop-k-init

@@ -1,8 +1,7 @@
-use borrow.Author.Rules.{rules}
 use native.Mathlib.Omega.{arith}
-use mathlib.Core.Path.{refl, ◌∙◌}
+use mathlib.Core.Path.{refl}
 use Rattle.diagrams.specs.Tree.{named, Canon}
-use Rattle.diagrams.specs.Store.{Table, table, blank}
+use Rattle.diagrams.specs.Store.{table, blank}
 use Rattle.diagrams.proofs.Unders.{under_none}
 use Rattle.utility_build.proofs.Stages.{empty_store, zero_full, zero_ready, whole}
 use Rattle.utility_build.proofs.build.Goals as goal

@@ -1,12 +1,7 @@
-use Prim.Native.Nat.{suc, ◌+◌, ◌-◌, ◌≤◌, ◌<◌}
-use mathlib.Core.Path.{◌≡◌, refl, ◌∙◌}
+use Prim.Native.Nat.{◌+◌, ◌≤◌, ◌<◌}
+use mathlib.Core.Path.{refl, ◌∙◌}
 use native.Mathlib.Omega.{arith}
-use lib.ListN.{length, drop}
-use Rattle.planning.specs.Coding.{width, bits}
-use Rattle.diagrams.specs.Store.{table}
-use Rattle.task.specs.Decode.{sizes}
-use Rattle.utility_ceiling.specs.Permitted.{permitted}
-use Rattle.utility_ceiling.proofs.Making.{Bounding, bounding_behind, bounding_room, bounding_more}
+use Rattle.utility_ceiling.proofs.Making.{bounding_behind, bounding_room, bounding_more}
 use Rattle.utility_ceiling.proofs.Files.{few_variables, two_values, variable_begins, variable_ends}
 use Rattle.utility_ceiling.proofs.add_variable.Goals as goal
 

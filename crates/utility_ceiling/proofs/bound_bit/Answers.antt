@@ -1,4 +1,3 @@
-use borrow.Author.Rules.{rules}
 use native.Mathlib.Omega.{arith}
 use Rattle.diagrams.specs.Tree.{named, Canon}
 use Rattle.utility_ceiling.proofs.Making.{adds_one, adds_zero}

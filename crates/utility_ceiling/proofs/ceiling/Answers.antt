@@ -6,7 +6,6 @@ use Rattle.planning.specs.Ceiling.{ceiling}
 use Rattle.task.specs.Decode.{task_of}
 use Rattle.utility.proofs.Pairs.{store_bare}
 use Rattle.utility_ceiling.proofs.Files.{ceiling_found}
-use borrow.Author.Rules.{rules}
 use Rattle.utility_ceiling.proofs.ceiling.Goals as goal
 
 pub slice_bounds-greatest_within-end-5 : goal.slice_bounds-greatest_within-end-5

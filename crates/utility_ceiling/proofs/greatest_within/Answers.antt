@@ -1,5 +1,4 @@
 use Rattle.diagrams.proofs.Rows.{widened_memo}
-use borrow.Author.Rules.{rules}
 use Rattle.utility_ceiling.proofs.greatest_within.Goals as goal
 
 pub greatest-requires : goal.greatest-requires

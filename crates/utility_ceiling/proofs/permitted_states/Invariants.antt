@@ -1,13 +1,10 @@
 use Prim.Native.Nat.{◌≤◌}
-use mathlib.Core.Path.{◌≡◌, refl, ◌∙◌}
-use native.Mathlib.Omega.{arith}
+use mathlib.Core.Path.{◌≡◌}
 use lib.ListN.{length}
 use Rattle.diagrams.specs.Store.{table}
 use Rattle.task.specs.Format.{variables}
 use Rattle.task.specs.Decode.{sizes}
 use Rattle.utility_ceiling.specs.Sets.{From}
-use Rattle.utility_ceiling.proofs.Making.{from_before, from_first}
-use Rattle.utility_ceiling.proofs.Files.{none_from}
 use Rattle.utility_ceiling.proofs.permitted_states.Given as goal
 
 abbrev pub invariant-loop-v : goal.invariant-loop-v

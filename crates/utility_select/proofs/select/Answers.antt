@@ -1,4 +1,3 @@
-use borrow.Author.Rules.{rules}
 use Rattle.diagrams.specs.Store.{table}
 use Rattle.diagrams.proofs.Memos.{stamp_fresh}
 use Rattle.utility.specs.Reading.{nodes}

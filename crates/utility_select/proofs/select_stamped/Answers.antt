@@ -1,13 +1,11 @@
-use borrow.Author.Rules.{rules}
 use native.Mathlib.Omega.{arith}
-use mathlib.Core.Path.{refl, ◌∙◌}
-use Rattle.diagrams.specs.Tree.{Tree}
-use Rattle.diagrams.specs.Store.{Table, table}
+use mathlib.Core.Path.{refl}
+use Rattle.diagrams.specs.Store.{table}
 use Rattle.diagrams.proofs.Trees.{no_both}
 use Rattle.diagrams.proofs.Entries.{tree_canon}
-use Rattle.diagram_loops.specs.Loops.{Operation, Looked}
+use Rattle.diagram_loops.specs.Loops.{Looked}
 use Rattle.diagram_loops.proofs.Stacks.{above, top, Lengths, lengths_same, lengths_then}
-use Rattle.diagram_loops.proofs.Loops.{empty, frame_of, Lawful, Down, Up, DownOnto, Ready, Going, Rising, down_left, up_left, down_same, rising_same, down_start, down_known, less_known, down_room, down_push, less_push, up_done, up_turn, less_turn, up_names, up_canon, up_full, up_made, less_node}
+use Rattle.diagram_loops.proofs.Loops.{empty, frame_of, Down, Up, Ready, down_same, rising_same, down_start, down_known, less_known, down_room, down_push, less_push, up_done, up_turn, less_turn, up_names, up_canon, up_full, up_made, less_node}
 use Rattle.utility.specs.Reading.{nodes}
 use Rattle.utility_select.specs.Selecting.{selecting}
 use Rattle.utility_select.proofs.Selecting.{Right, lawful, kept_ready}

@@ -1,25 +1,18 @@
-use Prim.Native.Nat.{◌-◌, ◌/◌, ◌≤◌, ◌<◌}
-use mathlib.Core.Path.{◌≡◌, refl, ◌∙◌}
+use mathlib.Core.Path.{refl, ◌∙◌}
 use native.Mathlib.Omega.{arith}
-use borrow.Author.Rules.{rules}
-use lib.ListN.{length}
 use Rattle.planning.proofs.Guards.{wrong, right}
-use Rattle.planning.proofs.Scan.{EveryFrom, every_none, every_more, every_stop, every_done}
-use Rattle.task.specs.Format.{operators, bound}
-use Rattle.task.specs.Decode.{task_of}
-use Rattle.task_states.specs.States.{met}
+use Rattle.planning.proofs.Scan.{every_none, every_more, every_stop, every_done}
 use Rattle.task_states.proofs.StateLaws.{holds_every}
-use Rattle.walk.specs.Walk.{walk_from, steps}
-use Rattle.walk.proofs.Steps.{WalkAt, walk_none, walk_17, walk_18, walk_19, walk_on, walk_end, pre_is, cost_is, state_is, stopped, finished}
+use Rattle.walk.proofs.Steps.{walk_none, walk_17, walk_18, walk_19, walk_on, walk_end, pre_is, cost_is, state_is, stopped, finished}
 use Rattle.std.proofs.lemmas.Bool.{not_from_false, not_from_true}
 use Rattle.walk.proofs.follow.Goals as goal
 use Rattle.walk.proofs.follow.Goals.{then-n-at, else-n-at+then-count-o, else-n-at+else-count-o+then-loop-k-test+then-not-met, else-n-at+else-count-o+else-loop-k-test+then-limit-spent}
 
 pub steps-init : goal.steps-init
-steps-init c =
-    (
+steps-init c = (
   walk_none _ _ _,
-  (omega arith, (omega arith, (refl, (c.operators-count.ensures.is, c.bound-limit.ensures.is)))),)
+  (omega arith, (omega arith, (refl, (c.operators-count.ensures.is, c.bound-limit.ensures.is)))),
+)
 
 pub overflow_mul-at : goal.overflow_mul-at
 overflow_mul-at c =
@@ -90,29 +83,29 @@ steps-preserved c =
 pub returns-then-step-n : goal.returns-then-step-n
 returns-then-step-n c =
     elim c.if-n-at.branch [
-      then-n-at w ↦ absurd (omega (arith, c.if-step-n.true))
-    | else-n-at+then-count-o w ↦
-        stopped _ _ _ _ _ w.fault-is w.step-is (walk_17 _ _ _ _ _ _ _ w.if-n-at.false c.steps.invariant.0 w.le16-o.ensures.is (omega (arith, c.steps.invariant)))
-    | else-n-at+else-count-o+then-loop-k-test+then-not-met w ↦
-        stopped _ _ _ _ _ w.fault-is w.step-is
-        (walk_18 _ _ _ _ _ _ _ w.if-n-at.false c.steps.invariant.0 w.le16-o.ensures.is (omega (arith, c.steps.invariant)) _
-        (pre_is _ _ _ w.operator_record-record.ensures _ _ w.preconditions-row.ensures w.precondition_count-used.ensures.is)
-        (every_stop _ _ _ w.loop-k-test.true w.loop-k.invariant (wrong _ _ w.met.ensures (not_from_false _ w.if-not-met.true)) ∙ holds_every _ _ _))
-    | else-n-at+else-count-o+else-loop-k-test+then-limit-spent w ↦
-        stopped _ _ _ _ _ w.fault-is w.step-is
-        (walk_19 _ _ _ _ _ _ _ w.if-n-at.false c.steps.invariant.0 w.le16-o.ensures.is (omega (arith, c.steps.invariant)) _
-        (pre_is _ _ _ w.operator_record-record.ensures _ _ w.preconditions-row.ensures w.precondition_count-used.ensures.is)
-        (every_done _ _ _ w.loop-k-test.false w.loop-k.invariant ∙ holds_every _ _ _)
-        _
-        (cost_is _ _ _ w.operator_record-record.ensures _ _ w.cost-spent.ensures.is)
-        (omega (arith, c.steps.invariant)))
+      | then-n-at w ↦ absurd (omega (arith, c.if-step-n.true))
+      | else-n-at+then-count-o w ↦
+          stopped _ _ _ _ _ w.fault-is w.step-is (walk_17 _ _ _ _ _ _ _ w.if-n-at.false c.steps.invariant.0 w.le16-o.ensures.is (omega (arith, c.steps.invariant)))
+      | else-n-at+else-count-o+then-loop-k-test+then-not-met w ↦
+          stopped _ _ _ _ _ w.fault-is w.step-is
+          (walk_18 _ _ _ _ _ _ _ w.if-n-at.false c.steps.invariant.0 w.le16-o.ensures.is (omega (arith, c.steps.invariant)) _
+          (pre_is _ _ _ w.operator_record-record.ensures _ _ w.preconditions-row.ensures w.precondition_count-used.ensures.is)
+          (every_stop _ _ _ w.loop-k-test.true w.loop-k.invariant (wrong _ _ w.met.ensures (not_from_false _ w.if-not-met.true)) ∙ holds_every _ _ _))
+      | else-n-at+else-count-o+else-loop-k-test+then-limit-spent w ↦
+          stopped _ _ _ _ _ w.fault-is w.step-is
+          (walk_19 _ _ _ _ _ _ _ w.if-n-at.false c.steps.invariant.0 w.le16-o.ensures.is (omega (arith, c.steps.invariant)) _
+          (pre_is _ _ _ w.operator_record-record.ensures _ _ w.preconditions-row.ensures w.precondition_count-used.ensures.is)
+          (every_done _ _ _ w.loop-k-test.false w.loop-k.invariant ∙ holds_every _ _ _)
+          _
+          (cost_is _ _ _ w.operator_record-record.ensures _ _ w.cost-spent.ensures.is)
+          (omega (arith, c.steps.invariant)))
     ]
 
 pub returns-else-step-n : goal.returns-else-step-n
 returns-else-step-n c =
     elim c.if-n-at.branch [
-      then-n-at w ↦ finished _ _ _ _ w.spent-is (walk_end _ _ _ _ _ _ _ w.if-n-at.true c.steps.invariant.0 c.utility.ensures)
-    | else-n-at+then-count-o w ↦ absurd (omega arith)
-    | else-n-at+else-count-o+then-loop-k-test+then-not-met w ↦ absurd (omega arith)
-    | else-n-at+else-count-o+else-loop-k-test+then-limit-spent w ↦ absurd (omega arith)
+      | then-n-at w ↦ finished _ _ _ _ w.spent-is (walk_end _ _ _ _ _ _ _ w.if-n-at.true c.steps.invariant.0 c.utility.ensures)
+      | else-n-at+then-count-o w ↦ absurd (omega arith)
+      | else-n-at+else-count-o+then-loop-k-test+then-not-met w ↦ absurd (omega arith)
+      | else-n-at+else-count-o+else-loop-k-test+then-limit-spent w ↦ absurd (omega arith)
     ]

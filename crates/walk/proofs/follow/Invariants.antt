@@ -1,17 +1,12 @@
 use Prim.Native.Nat.{◌-◌, ◌/◌, ◌≤◌, ◌<◌}
-use mathlib.Core.Path.{◌≡◌, refl, ◌∙◌}
-use mathlib.Core.Logic.{⊎_elim}
-use native.Mathlib.Omega.{arith}
-use borrow.Author.Rules.{rules}
+use mathlib.Core.Path.{◌≡◌}
 use lib.ListN.{length}
-use Rattle.planning.proofs.Guards.{wrong, right}
-use Rattle.planning.proofs.Scan.{EveryFrom, every_none, every_more, every_stop, every_done}
+use Rattle.planning.proofs.Scan.{EveryFrom}
 use Rattle.task.specs.Format.{operators, bound}
 use Rattle.task.specs.Decode.{task_of}
 use Rattle.task_states.specs.States.{met}
-use Rattle.task_states.proofs.StateLaws.{holds_every}
 use Rattle.walk.specs.Walk.{walk_from, steps}
-use Rattle.walk.proofs.Steps.{WalkAt, walk_none, walk_17, walk_18, walk_19, walk_on, walk_end, pre_is, cost_is, state_is, stopped, finished}
+use Rattle.walk.proofs.Steps.{WalkAt}
 use Rattle.walk.proofs.follow.Given as goal
 
 abbrev pub invariant-loop-k : goal.invariant-loop-k

@@ -1,8 +1,5 @@
-use Prim.Native.Nat.{◌-◌, ◌≤◌}
-use mathlib.Core.Path.{◌≡◌}
 use native.Mathlib.Omega.{arith}
 use native.Mathlib.Nat.{le_antisymm}
-use Rattle.writer.specs.Canonical.{begin}
 use Rattle.writer.proofs.Sections.{begin_first}
 use Rattle.writer.proofs.Writing.{next_begin, begin_read}
 use Rattle.writer.proofs.begin.Goals as goal

@@ -1,7 +1,5 @@
-use Prim.Native.Nat.{◌-◌}
 use native.Mathlib.Omega.{arith}
-use lib.ListN.{length}
-use Rattle.writer.proofs.Overlays.{Copied, copied_none, copied_more, copied_done}
+use Rattle.writer.proofs.Overlays.{copied_none, copied_more, copied_done}
 use Rattle.writer.proofs.copy.Goals as goal
 
 pub loop-i-init : goal.loop-i-init

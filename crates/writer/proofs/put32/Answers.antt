@@ -1,4 +1,3 @@
-use borrow.Author.Rules.{rules}
 use native.Mathlib.Omega.{arith}
 use Rattle.task.specs.Bytes.{bytes16}
 use Rattle.writer.proofs.Overlays.{overlay_behind}

@@ -1,7 +1,6 @@
 use mathlib.Core.Path.{refl}
 use mathlib.Core.List.{flat_map}
 use native.Mathlib.Omega.{arith}
-use borrow.Author.Rules.{rules}
 use Rattle.task.specs.Bytes.{bytes16}
 use Rattle.writer.specs.Canonical.{counts}
 use Rattle.writer.proofs.Writing.{put_behind}

@@ -1,7 +1,6 @@
 use mathlib.Core.Path.{refl}
 use mathlib.Core.List.{flat_map}
 use native.Mathlib.Omega.{arith}
-use borrow.Author.Rules.{rules}
 use Rattle.task.specs.Bytes.{bytes32}
 use Rattle.writer.specs.Canonical.{offsets}
 use Rattle.writer.proofs.Overlays.{overlay_nothing}

@@ -1,7 +1,5 @@
-use Prim.Native.Nat.{◌-◌}
 use native.Mathlib.Omega.{arith}
-use Rattle.writer.specs.Canonical.{section_count}
-use Rattle.writer.proofs.Writing.{Put, put_none, put_room, put_more, put_done}
+use Rattle.writer.proofs.Writing.{put_none, put_room, put_more, put_done}
 use Rattle.writer.proofs.put_sections.Goals as goal
 
 pub loop-k-init : goal.loop-k-init

@@ -1,7 +1,6 @@
 use Prim.Native.Nat.{◌-◌}
-use native.Mathlib.Omega.{arith}
 use Rattle.writer.specs.Canonical.{section_count}
-use Rattle.writer.proofs.Writing.{Put, put_none, put_room, put_more, put_done}
+use Rattle.writer.proofs.Writing.{Put}
 use Rattle.writer.proofs.put_sections.Given as goal
 
 abbrev pub invariant-loop-k : goal.invariant-loop-k

@@ -3,7 +3,6 @@ use mathlib.Core.Path.{◌≡◌}
 use mathlib.Core.Bool.{true}
 use native.Mathlib.Omega.{arith}
 use lib.ListN.{length}
-use borrow.Author.Rules.{rules}
 use Rattle.task.specs.Check.{accepted}
 use Rattle.task_check.proofs.Laws.{told_accepted, told_refused}
 use Rattle.writer.specs.Canonical.{begin, section_count}
