@@ -11,7 +11,7 @@ use lib.Seq.{get_or-set_same, get_or-set_other}
 use Rattle.planning.specs.Coding.{facts_lits}
 use Rattle.task.specs.Bytes.{Reads}
 use Rattle.task.specs.Format.{terms}
-use Rattle.task.specs.Decode.{term_in, sizes, task_of}
+use Rattle.task.specs.Decode.{term_in, task_of}
 use Rattle.task.specs.Check.{accepted}
 use Rattle.task.proofs.Acceptance.{sound}
 use Rattle.task_states.specs.Cubes.{Means}

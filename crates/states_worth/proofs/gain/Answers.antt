@@ -1,4 +1,3 @@
-use borrow.Author.Rules.{rules}
 use Rattle.states_worth.proofs.Sums.{gain_yes, gain_no}
 use Rattle.states_worth.proofs.gain.Goals as goal
 

@@ -1,7 +1,5 @@
-use borrow.Author.Rules.{rules}
 use native.Mathlib.Omega.{arith}
-use Prim.Native.Nat.{◌≤◌, ◌-◌}
-use Rattle.states_worth.proofs.Sums.{TopOf, top_one, top_new, top_old, top_all}
+use Rattle.states_worth.proofs.Sums.{top_one, top_new, top_old, top_all}
 use Rattle.states_worth.proofs.greatest.Goals as goal
 use Rattle.states_worth.proofs.greatest.Goals.{then-utility-u, else-utility-u}
 
@@ -34,8 +32,8 @@ loop-i-preserved c =
     let t = c.args.table.now in
     let l = c.args.states.now in (
       elim c.if-utility-u.branch [
-        then-utility-u w ↦ rw (w.utility-is, w.at-is) (top_new t c.args.n l c.loop-i.i c.loop-i.utility c.loop-i.at c.worth-u.result c.loop-i.invariant.0 c.worth-u.ensures.0 w.if-utility-u.true)
-      | else-utility-u w ↦ rw (w.utility-is, w.at-is) (top_old t c.args.n l c.loop-i.i c.loop-i.utility c.loop-i.at c.worth-u.result c.loop-i.invariant.0 c.worth-u.ensures.0 w.if-utility-u.false)
+        | then-utility-u w ↦ rw (w.utility-is, w.at-is) (top_new t c.args.n l c.loop-i.i c.loop-i.utility c.loop-i.at c.worth-u.result c.loop-i.invariant.0 c.worth-u.ensures.0 w.if-utility-u.true)
+        | else-utility-u w ↦ rw (w.utility-is, w.at-is) (top_old t c.args.n l c.loop-i.i c.loop-i.utility c.loop-i.at c.worth-u.result c.loop-i.invariant.0 c.worth-u.ensures.0 w.if-utility-u.false)
       ],
       omega arith,
     )

@@ -1,8 +1,5 @@
-use borrow.Author.Rules.{rules}
-use native.Mathlib.Omega.{arith}
 use Prim.Native.Nat.{◌≤◌, ◌-◌}
-use mathlib.Core.Logic.{⊎_elim}
-use Rattle.states_worth.proofs.Sums.{TopOf, top_one, top_new, top_old, top_all}
+use Rattle.states_worth.proofs.Sums.{TopOf}
 use Rattle.states_worth.proofs.greatest.Given as goal
 
 abbrev pub invariant-loop-i : goal.invariant-loop-i

@@ -1,4 +1,3 @@
-use borrow.Author.Rules.{rules}
 use native.Mathlib.Omega.{arith}
 use lib.ListN.{length-set}
 use Rattle.states_worth.proofs.Rows.{few_terms, rows_before, row_length, writes_term}

@@ -1,8 +1,6 @@
 use native.Mathlib.Omega.{arith}
-use Prim.Native.Nat.{◌-◌, ◌≤◌}
-use mathlib.Core.Path.{◌≡◌, refl, ◌∙◌}
-use lib.ListN.{length}
-use Rattle.states_worth.proofs.Rows.{Filled, fill_more, fill_all}
+use mathlib.Core.Path.{refl, ◌∙◌}
+use Rattle.states_worth.proofs.Rows.{fill_more, fill_all}
 use Rattle.states_worth.proofs.tabulate.Goals as goal
 
 pub terms-n-requires : goal.terms-n-requires

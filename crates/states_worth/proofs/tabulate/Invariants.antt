@@ -1,8 +1,7 @@
-use native.Mathlib.Omega.{arith}
 use Prim.Native.Nat.{◌-◌, ◌≤◌}
-use mathlib.Core.Path.{◌≡◌, refl, ◌∙◌}
+use mathlib.Core.Path.{◌≡◌}
 use lib.ListN.{length}
-use Rattle.states_worth.proofs.Rows.{Filled, fill_more, fill_all}
+use Rattle.states_worth.proofs.Rows.{Filled}
 use Rattle.states_worth.proofs.tabulate.Given as goal
 
 abbrev pub invariant-loop-j : goal.invariant-loop-j

@@ -1,6 +1,5 @@
 use native.Mathlib.Omega.{arith}
-use Prim.Native.Nat.{◌-◌}
-use Rattle.states_worth.proofs.Sums.{SumTo, sum_none, sum_more, sum_done, gain_small}
+use Rattle.states_worth.proofs.Sums.{sum_none, sum_more, sum_done, gain_small}
 use Rattle.states_worth.proofs.worth.Goals as goal
 
 pub loop-j-init : goal.loop-j-init

@@ -1,6 +1,5 @@
-use native.Mathlib.Omega.{arith}
 use Prim.Native.Nat.{◌-◌}
-use Rattle.states_worth.proofs.Sums.{SumTo, sum_none, sum_more, sum_done, gain_small}
+use Rattle.states_worth.proofs.Sums.{SumTo}
 use Rattle.states_worth.proofs.worth.Given as goal
 
 abbrev pub invariant-loop-j : goal.invariant-loop-j
