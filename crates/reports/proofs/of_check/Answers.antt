@@ -1,4 +1,3 @@
-use borrow.Author.Rules.{rules}
 use mathlib.Core.Path.{sym, ap, ◌∙◌}
 use Rattle.task_check.specs.Answers.{answer}
 use Rattle.task_check.specs.declared.Checked.{Checked}

@@ -1,4 +1,3 @@
-use borrow.Author.Rules.{rules}
 use mathlib.Core.Path.{sym, ap, ◌∙◌}
 use Rattle.question.specs.Answers.{numbers}
 use Rattle.reports.proofs.of_question.Goals as goal

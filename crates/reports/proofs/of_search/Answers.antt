@@ -1,4 +1,3 @@
-use borrow.Author.Rules.{rules}
 use mathlib.Core.Path.{sym, ap, ◌∙◌}
 use Rattle.reports.specs.Totals.{totals_with, totals_of}
 use Rattle.reports.proofs.of_search.Goals as goal

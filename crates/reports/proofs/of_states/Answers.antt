@@ -1,4 +1,3 @@
-use borrow.Author.Rules.{rules}
 use mathlib.Core.Path.{sym, ap, ◌∙◌}
 use Rattle.reports.specs.Tallies.{tally_with, tally_of}
 use Rattle.reports.proofs.of_states.Goals as goal

@@ -1,4 +1,3 @@
-use borrow.Author.Rules.{rules}
 use mathlib.Core.Path.{sym, ap, ◌∙◌}
 use Rattle.writer.specs.Answers.{numbers}
 use Rattle.reports.proofs.of_write.Goals as goal
