@@ -1,4 +1,3 @@
-use borrow.Author.Rules.{rules}
 use mathlib.Core.Path.{ap, ◌∙◌}
 use Rattle.reports.specs.Reported.{check_numbers}
 use Rattle.supervisor.proofs.laurelsnap_check.Goals as goal

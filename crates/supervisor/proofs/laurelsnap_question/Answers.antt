@@ -1,4 +1,3 @@
-use borrow.Author.Rules.{rules}
 use mathlib.Core.Path.{ap, ◌∙◌}
 use Rattle.question.specs.Answers.{numbers}
 use Rattle.supervisor.proofs.laurelsnap_question.Goals as goal

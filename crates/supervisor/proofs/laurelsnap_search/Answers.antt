@@ -1,4 +1,3 @@
-use borrow.Author.Rules.{rules}
 use Rattle.supervisor.proofs.Reports.{search_is}
 use Rattle.supervisor.proofs.laurelsnap_search.Goals as goal
 

@@ -1,4 +1,3 @@
-use borrow.Author.Rules.{rules}
 use Rattle.supervisor.proofs.Reports.{states_is}
 use Rattle.supervisor.proofs.laurelsnap_states.Goals as goal
 

@@ -1,4 +1,3 @@
-use borrow.Author.Rules.{rules}
 use mathlib.Core.Path.{ap, ◌∙◌}
 use Rattle.walk.specs.Answers.{numbers}
 use Rattle.supervisor.proofs.laurelsnap_walk.Goals as goal

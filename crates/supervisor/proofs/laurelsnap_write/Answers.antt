@@ -1,4 +1,3 @@
-use borrow.Author.Rules.{rules}
 use Rattle.supervisor.proofs.Reports.{write_is}
 use Rattle.supervisor.proofs.laurelsnap_write.Goals as goal
 

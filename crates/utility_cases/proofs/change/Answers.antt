@@ -1,5 +1,4 @@
 use native.Mathlib.Omega.{arith}
-use mathlib.Core.Path.{◌∙◌}
 use Rattle.diagrams.specs.Store.{table}
 use Rattle.diagram_apply.specs.Operations.{Operands}
 use Rattle.utility_cases.proofs.Going.{stops, goes, stays}
