@@ -3,7 +3,7 @@ use mathlib.Core.Path.{◌≡◌, refl}
 use mathlib.Core.Bool.{true}
 use mathlib.Core.List.{List}
 use Prim.Native.Nat.{ℕ}
-use Rattle.planning.specs.Connectives.{◌and◌, pick}
+use Rattle.planning.specs.Connectives.{◌and◌, ◌or◌, pick}
 use Rattle.planning.specs.Scan.{first_bad, every, tab}
 use Rattle.planning.specs.Model.{Task}
 use Rattle.planning.specs.Coding.{wide, width, bits}

@@ -6,7 +6,7 @@ use mathlib.Core.Path.{◌≡◌, refl, sym, ap, subst, ◌∙◌}
 use mathlib.Core.Bool.{false}
 use mathlib.Core.List.{List, [], ◌∷◌, ◌++◌}
 use lib.ListN.{length, replicate}
-use Rattle.planning.specs.Connectives.{pick}
+use Rattle.planning.specs.Connectives.{pick, ◌or◌}
 use Rattle.planning.specs.Model.{Task}
 use Rattle.planning.specs.Cases.{PlanRow}
 use Rattle.planning.specs.Best.{Best}
