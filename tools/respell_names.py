@@ -4,7 +4,7 @@
 usage: tools/respell_names.py          at the top: rewrites the .antt and .rt files and the must-fail edits below crates/, and prints the names that fall together
        tools/respell_names.py --list   prints each old name with its new one
 
-Types, modules, functions of src/, exported names, strings and the names of goals stay. Run once, right after port.py.
+Types, modules, functions of src/, exported names, strings and the names of goals stay. It goes right after port.py; run again it finds nothing to do.
 """
 
 import re
@@ -45,7 +45,8 @@ def renamed(root):
     """A lemma that would get the name of a definition in camel case, or of one that has its name already, ends in `_lem`."""
     names = turned(root)
     camel = {new for old, new in names.items() if "-" not in old}
-    return {old: new + "_lem" if "-" in old and new in camel or old == "start-set" else new for old, new in names.items()}
+    renamed = {old: new + "_lem" if "-" in old and new in camel or old == "start-set" else new for old, new in names.items()}
+    return {old: new for old, new in renamed.items() if old != new}
 
 
 def turned(root):
@@ -63,22 +64,24 @@ def main():
     if "--list" in sys.argv:
         print("\n".join(f"{old} {new}" for old, new in names.items()))
         return
-    before = {}
+    both = {}
     for new in set(names.values()):
         olds = [o for o, n in names.items() if n == new]
         if len(olds) > 1:
             print(f"fall together: {' '.join(olds)} as {new}")
     for path in files(root):
+        text = path.read_text()
+        old_names = set(TOKEN.findall(text)) & names.keys()
+        if not old_names:
+            continue
         local = LOCAL.get(str(path.relative_to(root)), {})
-        text = TOKEN.sub(lambda m: local.get(m[0], m[0]), path.read_text())
+        text = TOKEN.sub(lambda m: local.get(m[0], m[0]), text)
         tokens = set(TOKEN.findall(text))
-        for old in tokens & names.keys():
-            if names[old] in tokens and names[old] != old:
-                before.setdefault((old, names[old]), []).append(str(path))
-        spelled = TOKEN.sub(lambda m: names.get(m[0], m[0]), text)
-        if spelled != path.read_text():
-            path.write_text(spelled)
-    for (old, new), places in sorted(before.items()):
+        for old in old_names:
+            if names[old] in tokens:
+                both.setdefault((old, names[old]), []).append(str(path))
+        path.write_text(TOKEN.sub(lambda m: names.get(m[0], m[0]), text))
+    for (old, new), places in sorted(both.items()):
         print(f"both stand: {old} and {new} in {' '.join(places)}")
 
 
