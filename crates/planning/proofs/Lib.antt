@@ -24,4 +24,5 @@ pub mod Theorems
 pub mod Cases
 pub mod Guards
 pub mod Scan
+pub mod Ranges
 pub mod Tables

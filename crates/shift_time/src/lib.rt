@@ -1,7 +1,7 @@
 // The time of a plan as the stand's operators read it. The task counts units of ten seconds.
 #![tactic(auto)]
 
-ghost use Rattle.std.specs.Prelude.{◌-◌, ◌≡◌};
+ghost use Rattle.std.specs.Prelude.{◌≡◌};
 ghost use Rattle.shift_time.specs.Time.{time_of};
 
 // Units in a minute.
@@ -15,16 +15,6 @@ pub struct Time {
     pub unused: usize,
 }
 
-// The units of the bound that the cost leaves; none where it is above.
-fn unused(cost: usize, bound: usize) -> usize
-    ensures { result ≡ bound - cost }
-{
-    if bound < cost {
-        return 0;
-    }
-    bound - cost
-}
-
 // The time of a plan of this cost in a shift of this bound.
 pub fn time_of(cost: usize, bound: usize) -> Time
     ensures { result ≡ time_of cost bound }
@@ -32,6 +22,6 @@ pub fn time_of(cost: usize, bound: usize) -> Time
     Time {
         minutes: cost / MINUTE,
         units: cost % MINUTE,
-        unused: unused(cost, bound),
+        unused: bound.saturating_sub(cost),
     }
 }

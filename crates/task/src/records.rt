@@ -9,7 +9,8 @@ use crate::limits::{
     EFFECTS_AT, FACTS_AT, OPERATOR_BYTES, OPERATOR_PLACES, TERM_BYTES, TERM_PLACES, VARIABLE_BYTES,
 };
 
-// The record of variable v, of operator o, and of term t.
+// The record of variable v.
+#[tactic(auto, unfolding(crate::specs::Format::variable_record))]
 fn variable_record(file: &[u8], v: usize) -> &[u8]
     requires { v < 65536 }
     ensures { result.now ≡ variable_record file.now v }
@@ -21,6 +22,8 @@ fn variable_record(file: &[u8], v: usize) -> &[u8]
     )
 }
 
+// The record of operator o.
+#[tactic(auto, unfolding(crate::specs::Format::operator_record))]
 pub fn operator_record(file: &[u8], o: usize) -> &[u8]
     requires { o < 65536 }
     ensures { result.now ≡ operator_record file.now o }
@@ -32,6 +35,8 @@ pub fn operator_record(file: &[u8], o: usize) -> &[u8]
     )
 }
 
+// The record of term t.
+#[tactic(auto, unfolding(crate::specs::Format::term_record))]
 pub fn term_record(file: &[u8], t: usize) -> &[u8]
     requires { t < 65536 }
     ensures { result.now ≡ term_record file.now t }
@@ -84,13 +89,15 @@ pub fn preconditions(record: &[u8]) -> &[u8]
 }
 
 // The eight places of the effects: the last 16 bytes of an operator's record.
+#[tactic(auto, using(crate::proofs::Laws::effects_in, crate::proofs::Laws::effects_out))]
 pub fn effects(record: &[u8]) -> &[u8]
     ensures { result.now ≡ effects «record».now }
 {
     if record.len() == OPERATOR_BYTES {
-        return &record[EFFECTS_AT..];
+        &record[EFFECTS_AT..]
+    } else {
+        &record[..0]
     }
-    &record[..0]
 }
 
 // The weight in a term's record.

@@ -35,7 +35,7 @@ fn used_right(file: &[u8], facts: &[u8], k: usize) -> bool
     requires { k < 65536 }
     ensures { result ≡ used_right file.now facts.now k }
 {
-    names_variable(file, facts, k) && (has_value(file, facts, k) && rises(facts, k))
+    names_variable(file, facts, k) && has_value(file, facts, k) && rises(facts, k)
 }
 
 // An unused place holds two zero bytes.
@@ -63,12 +63,5 @@ pub fn facts_right(file: &[u8], facts: &[u8], used: usize, places: usize) -> boo
     requires { places ≤ 65536 }
     ensures { result ≡ facts_right file.now facts.now used places }
 {
-    let mut k = 0;
-    while k < places {
-        if !fact_right(file, facts, used, k) {
-            return false;
-        }
-        k += 1;
-    }
-    true
+    (0..places).all(|k| fact_right(file, facts, used, k))
 }

@@ -1,10 +1,11 @@
 // The rules for each kind of record, and the first record of each kind that breaks them: the refusals 7, 9 and 10.
-#![tactic(auto)]
+#![tactic(auto, using(planning::proofs::Guards::tests), unfolding(task::specs::Check::names_variable, task::specs::Check::has_value, task::specs::Check::rises, task::specs::Check::used_right, task::specs::Check::unused_right, task::specs::Check::fact_right, task::specs::Check::variable_right, task::specs::Check::cost_right, task::specs::Check::fact_counts_right, task::specs::Check::preconditions_right, task::specs::Check::effects_right, task::specs::Check::operator_record_right, task::specs::Check::operator_right, task::specs::Check::term_counts_right, task::specs::Check::term_facts_right, task::specs::Check::term_record_right, task::specs::Check::term_right))]
 
 mod facts;
 
 ghost use Rattle.std.specs.Prelude.{◌≡◌, ◌<◌};
-ghost use Rattle.task.specs.Bytes.{Reads};
+ghost use Rattle.task.specs.Format.{variables, operators, terms};
+ghost use Rattle.task_record_check.specs.First.{IsFirst};
 ghost use Rattle.task.specs.Check.{variable_right, cost_right, fact_counts_right, preconditions_right, effects_right, operator_record_right, operator_right, term_counts_right, term_facts_right, term_record_right, term_right, first_bad_variable, first_bad_operator, first_bad_term};
 
 use crate::facts::facts_right;
@@ -21,7 +22,7 @@ fn variable_right(file: &[u8], v: usize) -> bool
     ensures { result ≡ variable_right file.now v }
 {
     let d = size(file, v);
-    LEAST_VALUES <= d && (d <= MOST_VALUES && start_value(file, v) < d)
+    LEAST_VALUES <= d && d <= MOST_VALUES && start_value(file, v) < d
 }
 
 // The cost is at most 4,095; it may be 0.
@@ -62,8 +63,9 @@ fn operator_record_right(file: &[u8], record: &[u8]) -> bool
     ensures { result ≡ operator_record_right file.now «record».now }
 {
     cost_right(record)
-        && (fact_counts_right(record)
-            && (preconditions_right(file, record) && effects_right(file, record)))
+        && fact_counts_right(record)
+        && preconditions_right(file, record)
+        && effects_right(file, record)
 }
 
 // Operator o's record is right.
@@ -103,47 +105,23 @@ fn term_right(file: &[u8], t: usize) -> bool
     term_record_right(file, term_record(file, t))
 }
 
-// The first variable whose record breaks the rules, or their number.
-pub fn first_bad_variable(file: &[u8]) -> usize
-    ensures { Reads result (first_bad_variable file.now) 65536 }
+// The first variable whose record breaks the rules.
+pub fn first_bad_variable(file: &[u8]) -> Option<usize>
+    ensures { IsFirst result (first_bad_variable file.now) (variables file.now) }
 {
-    let n = variables(file);
-    let mut v = 0;
-    while v < n {
-        if !variable_right(file, v) {
-            return v;
-        }
-        v += 1;
-    }
-    v
+    (0..variables(file)).find(|v| !variable_right(file, *v))
 }
 
-// The first operator whose record breaks the rules, or their number.
-pub fn first_bad_operator(file: &[u8]) -> usize
-    ensures { Reads result (first_bad_operator file.now) 65536 }
+// The first operator whose record breaks the rules.
+pub fn first_bad_operator(file: &[u8]) -> Option<usize>
+    ensures { IsFirst result (first_bad_operator file.now) (operators file.now) }
 {
-    let n = operators(file);
-    let mut o = 0;
-    while o < n {
-        if !operator_right(file, o) {
-            return o;
-        }
-        o += 1;
-    }
-    o
+    (0..operators(file)).find(|o| !operator_right(file, *o))
 }
 
-// The first term whose record breaks the rules, or their number.
-pub fn first_bad_term(file: &[u8]) -> usize
-    ensures { Reads result (first_bad_term file.now) 65536 }
+// The first term whose record breaks the rules.
+pub fn first_bad_term(file: &[u8]) -> Option<usize>
+    ensures { IsFirst result (first_bad_term file.now) (terms file.now) }
 {
-    let n = terms(file);
-    let mut t = 0;
-    while t < n {
-        if !term_right(file, t) {
-            return t;
-        }
-        t += 1;
-    }
-    t
+    (0..terms(file)).find(|t| !term_right(file, *t))
 }

@@ -27,36 +27,36 @@ holds_every s fs n = holds_from s fs n 0
 
 -- ---- apply: what is left to apply, from k on
 module _ (s₀ fs : List ℕ) (n : ℕ) where
-  abbrev pub AppliedTo : List ℕ → ℕ → Type 0
-  AppliedTo s k = (k ≤ n) × (apply s₀ (facts fs n) ≡ apply s (tab (fact_at fs) (n - k) k))
+  pub record AppliedTo (s : List ℕ) (k : ℕ) : Type 0 where
+    pub is : apply s₀ (facts fs n) ≡ apply s (tab (fact_at fs) (n - k) k)
 
   pub applied_none : AppliedTo s₀ 0
   unfolding facts
-  applied_none = (omega arith, rw sub-zero)
+  applied_none = record { is = rw sub-zero }
 
   pub applied_more : (s t : List ℕ) (k : ℕ) → k < n → AppliedTo s k → t ≡ set s (fact_at fs k).var (fact_at fs k).val → AppliedTo t (k + 1)
   unfolding apply
-  applied_more s t k h inv e = (omega arith, inv.1 ∙ rw (tab_more (fact_at fs) n k h, e))
+  applied_more s t k h inv e = record { is = inv.is ∙ rw (tab_more (fact_at fs) n k h, e) }
 
   pub applied_done : (s : List ℕ) (k : ℕ) → n ≤ k → AppliedTo s k → s ≡ apply s₀ (facts fs n)
   unfolding apply
-  applied_done s k h inv = sym (inv.1 ∙ ap (apply s) (tab_done (fact_at fs) n k h))
+  applied_done s k h inv = sym (inv.is ∙ ap (apply s) (tab_done (fact_at fs) n k h))
 
 -- ---- utility: what the terms from t on add
 module _ (f s : List ℕ) (n : ℕ) where
-  abbrev pub SumTo : ℕ → ℕ → Type 0
-  SumTo sum t = state_utility (tab (term_in f) n 0) s ≡ sum + state_utility (tab (term_in f) (n - t) t) s
+  pub record SumTo (sum t : ℕ) : Type 0 where
+    pub is : state_utility (tab (term_in f) n 0) s ≡ sum + state_utility (tab (term_in f) (n - t) t) s
 
   pub sum_none : SumTo 0 0
-  sum_none = rw (sub-zero, zero-add)
+  sum_none = record { is = rw (sub-zero, zero-add) }
 
   pub sum_more : (sum t more : ℕ) → t < n → SumTo sum t → more ≡ gain f s t → SumTo (sum + more) (t + 1)
   unfolding state_utility gain
-  sum_more sum t more h inv e = inv ∙ rw (tab_more (term_in f) n t h, e) (omega arith)
+  sum_more sum t more h inv e = record { is = inv.is ∙ rw (tab_more (term_in f) n t h, e) (omega arith) }
 
   pub sum_done : (sum t : ℕ) → n ≤ t → SumTo sum t → sum ≡ state_utility (tab (term_in f) n 0) s
   unfolding state_utility
-  sum_done sum t h inv = sym (inv ∙ rw (tab_done (term_in f) n t h, add-zero))
+  sum_done sum t h inv = sym (inv.is ∙ rw (tab_done (term_in f) n t h, add-zero))
 
 -- ---- the start: the values written so far
 module _ (g : ℕ → ℕ) where

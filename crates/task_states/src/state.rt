@@ -13,6 +13,7 @@ use task::header::terms;
 use task::records::{start_value, term_count, term_facts, term_record, weight};
 
 // Gives variable v the value x, if there is such a variable.
+#[tactic(auto, using(crate::proofs::StateLaws::put_out))]
 fn put(state: &mut [u8], v: usize, x: usize)
     requires { x < 256 }
     ensures { state.new ≡ set state.old v x }
@@ -23,18 +24,18 @@ fn put(state: &mut [u8], v: usize, x: usize)
 }
 
 // Writes the starting value of each variable that the state has room for.
+#[tactic(auto, using(crate::proofs::StateLaws::start_more, crate::proofs::StateLaws::start_done), unfolding(planning::specs::Scan::tab))]
 pub fn start(file: &[u8], state: &mut [u8])
     requires { length state.old < 65536 }
     ensures { state.new ≡ tab (start_value file.now) (length state.old) 0 }
 {
-    let mut v = 0;
-    while v < state.len() {
-        state[v] = start_value(file, v) as u8;
-        v += 1;
+    for (v, place) in state.iter_mut().enumerate() {
+        *place = start_value(file, v) as u8;
     }
 }
 
 // Fact k of a row holds in the state.
+#[tactic(auto, unfolding(crate::specs::States::met, planning::specs::Model::value_of, task::specs::Bytes::byte))]
 pub fn met(state: &[u8], row: &[u8], k: usize) -> bool
     requires { k < 65536 }
     ensures { result ≡ met state.now row.now k }
@@ -47,25 +48,17 @@ pub fn holds(state: &[u8], row: &[u8], n: usize) -> bool
     requires { n < 256 }
     ensures { result ≡ holds state.now (facts row.now n) }
 {
-    let mut k = 0;
-    while k < n {
-        if !met(state, row, k) {
-            return false;
-        }
-        k += 1;
-    }
-    true
+    (0..n).all(|k| met(state, row, k))
 }
 
 // Makes the first n facts of a row hold.
+#[tactic(auto, using(crate::proofs::StateLaws::applied_none, crate::proofs::StateLaws::applied_more, crate::proofs::StateLaws::applied_done))]
 pub fn apply(state: &mut [u8], row: &[u8], n: usize)
     requires { n < 256 }
     ensures { state.new ≡ apply state.old (facts row.now n) }
 {
-    let mut k = 0;
-    while k < n {
+    for k in 0..n {
         put(state, fact_variable(row, k), fact_value(row, k));
-        k += 1;
     }
 }
 
@@ -83,15 +76,13 @@ fn gain(file: &[u8], state: &[u8], t: usize) -> usize
 }
 
 // The utility of the state: the sum of the weights of the terms that hold in it.
+#[tactic(auto, using(crate::proofs::StateLaws::sum_none))]
 pub fn utility(file: &[u8], state: &[u8]) -> usize
     ensures { result ≡ state_utility (task_of file.now).terms state.now }
 {
-    let n = terms(file);
     let mut sum: usize = 0;
-    let mut t = 0;
-    while t < n {
+    for t in 0..terms(file) {
         sum += gain(file, state, t);
-        t += 1;
     }
     sum
 }

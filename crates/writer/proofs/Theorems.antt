@@ -10,7 +10,7 @@ use borrow.Author.Tests.{le-leb}
 use Rattle.planning.proofs.Guards.{pick_yes}
 use Rattle.task.specs.Check.{accepted}
 use Rattle.task.specs.Decode.{task_of}
-use Rattle.writer.specs.declared.Written.TheVariants.{Whole}
+use Rattle.std.specs.Prelude.{Ok}
 use Rattle.writer.specs.Canonical.{written, most_written_bytes}
 use Rattle.writer.specs.Same.{Same}
 use Rattle.writer.specs.Write.{write_of}
@@ -39,6 +39,6 @@ module _ (f : List ℕ) (a : accepted f ≡ true) where
   written_small = rw (written_long f) (end_small f a)
 
   -- so a list as long as the file is never refused 22
-  pub room_enough : (room : ℕ) → length f ≤ room → write_of f room ≡ Whole (length (written f))
+  pub room_enough : (room : ℕ) → length f ≤ room → write_of f room ≡ Ok (length (written f))
   unfolding write_of
   room_enough room h = sym (pick_yes _ _ _ _ a (pick_yes _ _ _ _ (le-leb (length (written f)) room (le_trans written_short h)) refl))

@@ -12,10 +12,12 @@ use borrow.Author.Tests.{le-leb, lt-leb}
 use Rattle.planning.proofs.Guards.{pick_yes, pick_no}
 use Rattle.task.specs.Limits.{header_bytes}
 use Rattle.task.specs.Bytes.{Reads}
-use Rattle.task.specs.Check.{check_of, accepted}
+use Rattle.std.specs.Prelude.{Result, Ok, Err}
+use Rattle.refusal.specs.declared.Refusal.{Refusal}
+use Rattle.refusal.specs.declared.Refusal.TheVariants.{OutputShort}
+use Rattle.task.specs.Check.{accepted}
+use Rattle.task_check.specs.Answers.{refusal_of}
 use Rattle.writer.specs.Canonical.{sections, begin, counts, offsets, header, written, section_count, most_written_bytes}
-use Rattle.writer.specs.declared.Written.{Written}
-use Rattle.writer.specs.declared.Written.TheVariants.{Unread, Short, Whole}
 use Rattle.writer.specs.Write.{overlay, write_of, leaves}
 use Rattle.writer.proofs.Overlays.{overlay_nothing, overlay_behind, overlay_next, overlay_front, length_overlay}
 use Rattle.writer.proofs.Sections.{sections_count, begin_first, begin_next, begin_below, end_small}
@@ -84,14 +86,14 @@ header_room f room h = le_trans (rw (← begin_first f) at (begin_below f 0 (ome
 
 -- ---- the writer's answer, and the list afterwards, case by case
 module _ (f out : List ℕ) where
-  abbrev pub Writes : Written → List ℕ → Type 0
+  abbrev pub Writes : Result ℕ Refusal → List ℕ → Type 0
   Writes r out' = (r ≡ write_of f (length out)) × (out' ≡ leaves r f out)
 
-  pub write_unread : (n p : ℕ) → (n, p) ≡ check_of f → accepted f ≡ false → Writes (Unread n p) out
+  pub write_refused : (refusal : Refusal) → refusal ≡ refusal_of f → accepted f ≡ false → Writes (Err refusal) out
   unfolding write_of leaves
-  write_unread n p e refused = (pick_no _ _ _ _ refused (λ i. Unread (e i).0 (e i).1), refl)
+  write_refused refusal e refused = (pick_no _ _ _ _ refused (rw e), refl)
 
-  pub write_short : accepted f ≡ true → length out < begin f section_count → Writes Short out
+  pub write_short : accepted f ≡ true → length out < begin f section_count → Writes (Err OutputShort) out
   unfolding write_of leaves
   write_short a short =
       (pick_yes _ _ _ _ a (pick_no _ _ _ _ (rw (written_long f) (lt-leb (begin f section_count) (length out) short)) refl), refl)
@@ -104,7 +106,7 @@ module _ (f out : List ℕ) where
       rw (overlay_next out 0 12 (counts f) (offsets f) (rw (counts_long f)) (omega arith))
       (overlay_next out 0 header_bytes (header f) (flatten (sections f)) (rw (header_long f)) wide ∙ overlay_front out (written f))
 
-  pub write_whole : (n : ℕ) (out' : List ℕ) → accepted f ≡ true → n ≡ begin f section_count → n ≤ length out → out' ≡ overlay (overlay (overlay out 0 (counts f)) 12 (offsets f)) header_bytes (flatten (sections f)) → Writes (Whole n) out'
+  pub write_whole : (n : ℕ) (out' : List ℕ) → accepted f ≡ true → n ≡ begin f section_count → n ≤ length out → out' ≡ overlay (overlay (overlay out 0 (counts f)) 12 (offsets f)) header_bytes (flatten (sections f)) → Writes (Ok n) out'
   unfolding write_of leaves
   write_whole n out' a e room is =
       let end : n ≡ length (written f) = e ∙ sym (written_long f) in

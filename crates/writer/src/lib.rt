@@ -9,21 +9,13 @@ ghost use Rattle.task.specs.Check.{accepted};
 ghost use Rattle.writer.specs.Canonical.{sections, section_count, begin, counts, offsets};
 ghost use Rattle.writer.specs.Write.{overlay, write_of, leaves};
 
+use refusal::Refusal;
 use task::bytes::part;
-use task::header::{bound, operators, operators_at, terms, terms_at, variables, variables_at};
-use task::limits::{HEADER_BYTES, OPERATOR_BYTES, TERM_BYTES, VARIABLE_BYTES};
-use task_check::{Checked, check};
-
-// What the writer answers (specs/Answers.antt has the documents' number and values for each case).
-#[derive(Clone, Copy)]
-pub enum Written {
-    // The file is refused: the number, and the record that it is about, or 0.
-    Unread { number: u8, place: u16 },
-    // The output list is shorter than the file to be written.
-    Short,
-    // The file is written, and has so many bytes.
-    Whole { length: usize },
-}
+use task::header::{
+    bound, operator_section, operators, term_section, terms, variable_section, variables,
+};
+use task::limits::HEADER_BYTES;
+use task_check::check;
 
 // The sections of a file: the variables, the operators, the terms.
 const SECTIONS: usize = 3;
@@ -33,13 +25,12 @@ fn section(file: &[u8], k: usize) -> &[u8]
     requires { (accepted file.now ≡ true) × (k < section_count) }
     ensures { result.now ≡ get_or (sections file.now) k [] }
 {
-    if k == 0 {
-        return part(file, variables_at(file), VARIABLE_BYTES * variables(file));
-    }
-    if k == 1 {
-        return part(file, operators_at(file), OPERATOR_BYTES * operators(file));
-    }
-    part(file, terms_at(file), TERM_BYTES * terms(file))
+    let section = match k {
+        0 => variable_section(file),
+        1 => operator_section(file),
+        _ => term_section(file),
+    };
+    part(file, section.at, section.bytes)
 }
 
 // Where section k is to begin: behind the header and the sections before it; for SECTIONS, where the written file ends.
@@ -48,10 +39,8 @@ fn begin(file: &[u8], k: usize) -> usize
     ensures { Reads result (begin file.now k) 4294967296 }
 {
     let mut at = HEADER_BYTES;
-    let mut i = 0;
-    while i < k {
+    for i in 0..k {
         at += section(file, i).len();
-        i += 1;
     }
     at
 }
@@ -61,11 +50,7 @@ fn copy(out: &mut [u8], at: usize, bytes: &[u8])
     requires { at + length bytes.now ≤ length out.old }
     ensures { out.new ≡ overlay out.old at bytes.now }
 {
-    let mut i = 0;
-    while i < bytes.len() {
-        out[at + i] = bytes[i];
-        i += 1;
-    }
+    out[at..at + bytes.len()].copy_from_slice(bytes);
 }
 
 // Writes a number of two bytes, low byte first.
@@ -73,8 +58,7 @@ fn put16(out: &mut [u8], at: usize, x: usize)
     requires { (at + 2 ≤ length out.old) × (x < 65536) }
     ensures { out.new ≡ overlay out.old at (bytes16 x) }
 {
-    out[at] = (x % 256) as u8;
-    out[at + 1] = (x / 256) as u8;
+    copy(out, at, &(x as u16).to_le_bytes());
 }
 
 // Writes a number of four bytes, low byte first.
@@ -82,8 +66,7 @@ fn put32(out: &mut [u8], at: usize, x: usize)
     requires { (at + 4 ≤ length out.old) × (x < 4294967296) }
     ensures { out.new ≡ overlay out.old at (bytes32 x) }
 {
-    put16(out, at, x % 65536);
-    put16(out, at + 2, x / 65536);
+    copy(out, at, &(x as u32).to_le_bytes());
 }
 
 // Writes the letters, the counts and the bound.
@@ -114,31 +97,25 @@ fn put_sections(file: &[u8], out: &mut [u8])
     requires { (accepted file.now ≡ true) × (begin file.now section_count ≤ length out.old) }
     ensures { out.new ≡ overlay out.old header_bytes (flatten (sections file.now)) }
 {
-    let mut k = 0;
-    while k < SECTIONS {
+    for k in 0..SECTIONS {
         copy(out, begin(file, k), section(file, k));
-        k += 1;
     }
 }
 
-// Writes the canonical file of the file's task to the front of a lent list. Refused (1 to 10, then 22), the list is as it was.
-pub fn write(file: &[u8], out: &mut [u8]) -> Written
+// Writes the canonical file of the file's task to the front of a lent list, and gives its length. Refused (1 to 10, then 22), the list is as it was.
+pub fn write(file: &[u8], out: &mut [u8]) -> Result<usize, Refusal>
     ensures { let f = file.now in
         let before = out.old in
         let after = out.new in
         (result ≡ write_of f (length before)) × (after ≡ leaves result f before) }
 {
-    match check(file) {
-        Checked::Refused { number, place } => Written::Unread { number, place },
-        Checked::Accepted => {
-            let length = begin(file, SECTIONS);
-            if out.len() < length {
-                return Written::Short;
-            }
-            put_counts(file, out);
-            put_offsets(file, out);
-            put_sections(file, out);
-            Written::Whole { length }
-        }
+    check(file)?;
+    let length = begin(file, SECTIONS);
+    if out.len() < length {
+        return Err(Refusal::OutputShort);
     }
+    put_counts(file, out);
+    put_offsets(file, out);
+    put_sections(file, out);
+    Ok(length)
 }

@@ -1,35 +1,10 @@
-use native.Mathlib.Omega.{arith}
-use Rattle.planning.proofs.Guards.{wrong, right}
-use Rattle.planning.proofs.Scan.{every_none, every_more, every_stop, every_done}
-use Rattle.lent_lists.specs.Lists.{entries_right}
+use borrow.Author.Rules.{rules}
+use borrow.Author.Tests.{tests}
+use Rattle.planning.proofs.Ranges.{every_ran}
+use Rattle.lent_lists.specs.Lists.{entry_right, entries_right}
 use Rattle.lent_lists.proofs.entries_right.Goals as goal
-
-pub loop-k-init : goal.loop-k-init
-loop-k-init c =
-    every_none _ _
-
-pub entry_right-requires : goal.entry_right-requires
-entry_right-requires c =
-    omega arith
-
-pub returns-then-not-entry_right : goal.returns-then-not-entry_right
-unfolding entries_right
-returns-then-not-entry_right c =
-    every_stop _ _ _ c.loop-k-test.true c.loop-k.invariant (wrong _ _ c.entry_right.ensures (rw c.if-not-entry_right.true))
-
-pub overflow_add-k : goal.overflow_add-k
-overflow_add-k c =
-    omega arith
-
-pub loop-k-smaller : goal.loop-k-smaller
-loop-k-smaller c =
-    omega arith
-
-pub loop-k-preserved : goal.loop-k-preserved
-loop-k-preserved c =
-    every_more _ _ _ c.loop-k-test.true c.loop-k.invariant (right _ _ c.entry_right.ensures (rw c.if-not-entry_right.false))
 
 pub returns : goal.returns
 unfolding entries_right
 returns c =
-    every_done _ _ _ c.loop-k-test.false c.loop-k.invariant
+    every_ran (entry_right c.args.n c.args.bit.now c.args.low.now c.args.high.now) c.args.count _ _ c.all.result c.all.ensures.ran (λ x q k. search (rules, tests)) (λ x q k. search (rules, tests))

@@ -1,35 +1,11 @@
-use native.Mathlib.Omega.{arith}
-use Rattle.planning.proofs.Guards.{wrong, right}
-use Rattle.planning.proofs.Scan.{bad_none, bad_more, bad_stop, bad_done}
+use borrow.Author.Rules.{rules}
+use borrow.Author.Tests.{tests}
+use Rattle.planning.proofs.Ranges.{first_ran}
+use Rattle.task.specs.Check.{variable_right}
+use Rattle.task_record_check.proofs.First.{first_small}
 use Rattle.task_record_check.proofs.first_bad_variable.Goals as goal
-
-pub loop-v-init : goal.loop-v-init
-loop-v-init c =
-    bad_none _ _
-
-pub variable_right-requires : goal.variable_right-requires
-variable_right-requires c =
-    omega arith
-
-pub returns-then-not-variable_right : goal.returns-then-not-variable_right
-returns-then-not-variable_right c =
-    record {
-      is = bad_stop _ _ _ (omega arith) c.loop-v.invariant (wrong _ _ c.variable_right.ensures (rw c.if-not-variable_right.true));
-      small = omega arith;
-    }
-
-pub overflow_add-v : goal.overflow_add-v
-overflow_add-v c =
-    omega arith
-
-pub loop-v-smaller : goal.loop-v-smaller
-loop-v-smaller c =
-    omega arith
-
-pub loop-v-preserved : goal.loop-v-preserved
-loop-v-preserved c =
-    bad_more _ _ _ (omega arith) c.loop-v.invariant (right _ _ c.variable_right.ensures (rw c.if-not-variable_right.false))
 
 pub returns : goal.returns
 returns c =
-    record { is = bad_done _ _ _ (omega arith) c.loop-v.invariant; small = omega arith }
+    let found = first_ran (variable_right c.args.file.now) c.variables.result _ _ c.find.result c.find.ensures.ran (λ x q k. search (rules, tests)) (λ x q k. search (rules, tests)) in
+    rw (← c.variables.ensures.is) (first_small _ _ _ c.variables.ensures.small found)

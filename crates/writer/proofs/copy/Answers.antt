@@ -1,35 +1,6 @@
-use native.Mathlib.Omega.{arith}
-use Rattle.writer.proofs.Overlays.{copied_none, copied_more, copied_done}
+use Rattle.writer.proofs.Overlays.{overlay_put}
 use Rattle.writer.proofs.copy.Goals as goal
-
-pub loop-i-init : goal.loop-i-init
-loop-i-init c =
-    copied_none _ _ _
-
-pub bounds-bytes-i : goal.bounds-bytes-i
-bounds-bytes-i c =
-    omega arith
-
-pub overflow_add-out : goal.overflow_add-out
-overflow_add-out c =
-    omega arith
-
-pub bounds-out-at : goal.bounds-out-at
-bounds-out-at c =
-    omega arith
-
-pub overflow_add-i : goal.overflow_add-i
-overflow_add-i c =
-    omega arith
-
-pub loop-i-smaller : goal.loop-i-smaller
-loop-i-smaller c =
-    omega arith
-
-pub loop-i-preserved : goal.loop-i-preserved
-loop-i-preserved c =
-    copied_more _ _ _ _ _ (omega arith) c.loop-i-test.true c.loop-i.invariant
 
 pub returns : goal.returns
 returns c =
-    copied_done _ _ _ _ _ c.loop-i-test.false c.loop-i.invariant
+    rw c.copy_from_slice.ensures.after (overlay_put _ _ _)

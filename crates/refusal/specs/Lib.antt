@@ -1,0 +1,2 @@
+-- The documents' numbers of the refusals.
+pub mod Refusals

@@ -1,0 +1,2 @@
+-- The first record that is wrong.
+pub mod First

@@ -1,0 +1,2 @@
+-- What the search for a wrong record gives.
+pub mod First
