@@ -9,7 +9,7 @@ use diagrams::{NodeView, Split};
 use std::cmp::Ordering;
 
 // The entry of an end value v has the bit FIRST_END + v.
-const FIRST_END: u32 = 64;
+pub const FIRST_END: u32 = 64;
 
 // The utility diagram of a task: the name `root` in these lists.
 #[derive(Clone, Copy)]
