@@ -12,14 +12,14 @@ use Rattle.diagrams.specs.Tree.{Tree, none, all, node, named, Canon, low_t, high
 use Rattle.diagrams.specs.Store.{Table, tree, Store}
 use Rattle.diagrams.specs.Memo.{Memo}
 use Rattle.diagrams.specs.declared.Split.{Split}
-use Rattle.diagrams.proofs.Trees.{test, no_both}
+use Rattle.diagrams.proofs.Trees.{test}
 use Rattle.diagrams.proofs.Entries.{tree_canon}
 use Rattle.diagrams.proofs.Applies.{lead}
 use Rattle.diagrams.proofs.Children.{tree_inner}
 use Rattle.diagrams.proofs.Memos.{memo_extends}
 use Rattle.utility.specs.Within.{within_t}
 use Rattle.utility.specs.Reading.{nodes, end_of, pair_of, Names}
-use Rattle.utility.specs.declared.Ending.{Ending}
+use Rattle.std.specs.Prelude.{Option, Some, None}
 use Rattle.utility.proofs.Adds.{sides_canon}
 use Rattle.utility.proofs.Within.{Walks, within_end, within_none, within_all, within_lead}
 
@@ -57,6 +57,12 @@ not_none s st (suc (suc k)) lt n e =
     let z : ◌≡◌ {A = ℕ} 0 1 = cc in
     omega arith
 
+some_same : {v w : ℕ} → ◌≡◌ {A = Option ℕ} (Some v) (Some w) → v ≡ w
+some_same e = cc
+
+none_some : {v : ℕ} → ◌≡◌ {A = Option ℕ} None (Some v) → ⊥
+none_some e = cc
+
 -- a name that stands for an end value
 module _ {A : Type 0} (end : Tree → ℕ → A) (join : ℕ → A → A → A) (𝓦 : Walks end join) (x : Table) (sx : Store x) (t : Tree) where
   low_end : (d : ℕ) → d < 2 → within_t end join t (tree x d) ≡ end t 0
@@ -65,28 +71,27 @@ module _ {A : Type 0} (end : Tree → ℕ → A) (join : ℕ → A → A → A) 
   low_end (suc zero) lt = within_all end join 𝓦 t
   low_end (suc (suc d)) lt = absurd (omega arith)
 
-  pub end_value : (d : ℕ) (e : Ending) → d < x.count + 2 → e ≡ end_of x.bit d → e.known ≡ true → within_t end join t (tree x d) ≡ end t e.value
-  unfolding end_of
-  end_value d e lt is kn =
+  pub end_value : (d v : ℕ) → d < x.count + 2 → end_of x.bit d ≡ Some v → within_t end join t (tree x d) ≡ end t v
+  end_value d v lt is =
       ⊎_elim
-      (λ (p : ltb d 2 ≡ true). rw (rw p at is) (low_end d (ltb-true d 2 p)))
+      (λ (p : ltb d 2 ≡ true). rw (← some_same (rw p at is)) (low_end d (ltb-true d 2 p)))
       (λ (p : ltb d 2 ≡ false).
       ⊎_elim
-      (λ (q : ltb (get_or x.bit (d - 2) 0) 64 ≡ true). absurd (no_both kn (ap (λ (y : Ending). y.known) (rw (p, q) at is))))
+      (λ (q : ltb (get_or x.bit (d - 2) 0) 64 ≡ true). absurd (none_some (rw (p, q) at is)))
       (λ (q : ltb (get_or x.bit (d - 2) 0) 64 ≡ false).
-      rw (rw (p, q) at is, tree_inner x sx d (ltb-false d 2 p) lt) (within_end end join 𝓦 t _ _ _ (ltb-false (get_or x.bit (d - 2) 0) 64 q)))
+      rw (← some_same (rw (p, q) at is), tree_inner x sx d (ltb-false d 2 p) lt) (within_end end join 𝓦 t _ _ _ (ltb-false (get_or x.bit (d - 2) 0) 64 q)))
       (test (ltb (get_or x.bit (d - 2) 0) 64)))
       (test (ltb d 2))
 
-pub no_end : (ubit : List ℕ) (d : ℕ) (e : Ending) → e ≡ end_of ubit d → e.known ≡ false → (2 ≤ d) × (get_or ubit (d - 2) 0 < 64)
-unfolding end_of
-no_end ubit d e is kn =
+-- a name that stands for no end value
+pub no_end : (ubit : List ℕ) (d : ℕ) → end_of ubit d ≡ None → (2 ≤ d) × (get_or ubit (d - 2) 0 < 64)
+no_end ubit d is =
     ⊎_elim
-    (λ (p : ltb d 2 ≡ true). absurd (no_both (ap (λ (y : Ending). y.known) (rw p at is)) kn))
+    (λ (p : ltb d 2 ≡ true). absurd (none_some (sym (rw p at is))))
     (λ (p : ltb d 2 ≡ false).
     ⊎_elim
     (λ (q : ltb (get_or ubit (d - 2) 0) 64 ≡ true). (ltb-false d 2 p, ltb-true (get_or ubit (d - 2) 0) 64 q))
-    (λ (q : ltb (get_or ubit (d - 2) 0) 64 ≡ false). absurd (no_both (ap (λ (y : Ending). y.known) (rw (p, q) at is)) kn))
+    (λ (q : ltb (get_or ubit (d - 2) 0) 64 ≡ false). absurd (none_some (sym (rw (p, q) at is))))
     (test (ltb (get_or ubit (d - 2) 0) 64)))
     (test (ltb d 2))
 
@@ -223,7 +228,6 @@ module _ (s x : Table) (st : Store s) (sx : Store x) (a d : ℕ) (la : a < s.cou
   lead_min ha = rw (tree_inner s st a ha la, d_inner)
 
   pub pair : (p : Split) → p ≡ pair_of s.bit s.low s.high x.bit x.low x.high a d → Pair s x a d p
-  unfolding pair_of
   pair p is =
       ⊎_elim
       (λ (e : ltb a 2 ≡ true).

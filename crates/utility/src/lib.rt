@@ -2,82 +2,74 @@
 // and the utility diagram share.
 #![tactic(auto)]
 
-ghost use Rattle.std.specs.Prelude.{◌≡◌, ◌+◌, ◌≤◌, ◌<◌, length};
-ghost use Rattle.utility.specs.Reading.{end_of, pair_of};
+ghost use Rattle.std.specs.Prelude.{◌≡◌, ◌+◌, ◌≤◌, ◌<◌, length, IfSome};
+ghost use Rattle.utility.specs.Reading.{SameLengths, end_of, pair_of};
 
-use diagrams::Split;
+use diagrams::{NodeView, Split};
+use std::cmp::Ordering;
 
-// Whether a name of the utility diagram stands for an end value, and which; the names 0 and 1 count as the value 0.
+// The entry of an end value v has the bit FIRST_END + v.
+pub const FIRST_END: u32 = 64;
+
+// The utility diagram of a task: the name `root` in these lists.
 #[derive(Clone, Copy)]
-pub struct Ending {
-    pub known: bool,
-    pub value: u32,
+pub struct Utility<'a> {
+    pub nodes: NodeView<'a>,
+    pub root: u32,
 }
 
-pub fn end(ubit: &[u32], u: u32) -> Ending
-    requires { u < length ubit.now + 2 }
-    ensures { (result ≡ end_of ubit.now u) × (result.value < 4294967232) }
+// The end value that a name of the utility diagram stands for, if it stands for one; the names 0 and 1 count as the value 0.
+pub fn end(utility: NodeView, u: u32) -> Option<u32>
+    requires { u < length utility.bit.now + 2 }
+    ensures value { result ≡ end_of utility.entry.bit.now u }
+    ensures small { IfSome result (λ v. v < 4294967232) }
 {
     if u < 2 {
-        return Ending {
-            known: true,
-            value: 0,
-        };
+        return Some(0);
     }
-    let i = u as usize - 2;
-    let c = ubit[i];
-    if c < 64 {
-        return Ending {
-            known: false,
-            value: 0,
-        };
-    }
-    Ending {
-        known: true,
-        value: c - 64,
-    }
-}
-
-// A bit, and the names on its two sides: those of a set and those of the utility diagram.
-fn sides(bit: u32, al: u32, ah: u32, bl: u32, bh: u32) -> Split
-    ensures { result ≡ record { bit = bit; al = al; ah = ah; bl = bl; bh = bh } }
-{
-    Split {
-        bit,
-        al,
-        ah,
-        bl,
-        bh,
-    }
+    utility.bit[u as usize - 2].checked_sub(FIRST_END)
 }
 
 // A name of a set and a name of the utility diagram that stands for no end value, parted at the lesser of their bits.
-pub fn part(
-    bit: &[u32],
-    low: &[u32],
-    high: &[u32],
-    ubit: &[u32],
-    ulow: &[u32],
-    uhigh: &[u32],
-    a: u32,
-    u: u32,
-) -> Split
-    requires a_in_bounds { (a < length bit.now + 2) × (2 ≤ u) × (u < length ubit.now + 2) }
-    requires low_len { (length low.now ≡ length bit.now) × (length high.now ≡ length bit.now) × (length ulow.now ≡ length ubit.now) × (length uhigh.now ≡ length ubit.now) }
-    ensures { result ≡ pair_of bit.now low.now high.now ubit.now ulow.now uhigh.now a u }
+pub fn part(set: NodeView, utility: NodeView, a: u32, u: u32) -> Split
+    requires names { (a < length set.bit.now + 2) × (2 ≤ u) × (u < length utility.bit.now + 2) }
+    requires lengths { SameLengths set × SameLengths utility }
+    ensures { result ≡ pair_of set.entry.bit.now set.entry.low.now set.entry.high.now utility.entry.bit.now utility.entry.low.now utility.entry.high.now a u }
 {
     let j = u as usize - 2;
-    let c = ubit[j];
+    let c = utility.bit[j];
     if a < 2 {
-        return sides(c, a, a, ulow[j], uhigh[j]);
+        return Split {
+            bit: c,
+            al: a,
+            ah: a,
+            bl: utility.low[j],
+            bh: utility.high[j],
+        };
     }
     let i = a as usize - 2;
-    let b = bit[i];
-    if b < c {
-        return sides(b, low[i], high[i], u, u);
+    let b = set.bit[i];
+    match b.cmp(&c) {
+        Ordering::Less => Split {
+            bit: b,
+            al: set.low[i],
+            ah: set.high[i],
+            bl: u,
+            bh: u,
+        },
+        Ordering::Greater => Split {
+            bit: c,
+            al: a,
+            ah: a,
+            bl: utility.low[j],
+            bh: utility.high[j],
+        },
+        Ordering::Equal => Split {
+            bit: b,
+            al: set.low[i],
+            ah: set.high[i],
+            bl: utility.low[j],
+            bh: utility.high[j],
+        },
     }
-    if c < b {
-        return sides(c, a, a, ulow[j], uhigh[j]);
-    }
-    sides(b, low[i], high[i], ulow[j], uhigh[j])
 }

@@ -1,78 +1,78 @@
 -- The addition of a weight as an operation of the loops. Assumes nothing.
 use Prim.Native.Nat.{ℕ, zero, suc, ◌+◌, ◌-◌, ◌≤◌, ◌<◌}
-use mathlib.Core.Path.{◌≡◌, refl, sym, ◌∙◌}
-use mathlib.Core.Bool.{Bool, true, false, not}
+use mathlib.Core.Path.{◌≡◌, refl, sym}
+use mathlib.Core.Bool.{Bool, true, false}
 use mathlib.Core.Logic.{◌⊎◌, inl, inr, ⊎_elim}
 use mathlib.Core.List.{List}
 use native.Mathlib.Omega.{arith}
 use native.Mathlib.Numerals.{add-one}
-use lib.ListN.{length, get_or}
-use lib.Dec.{ltb}
-use borrow.Author.Tests.{le-ltb, ltb-true, ltb-false, eq-eqb}
+use lib.ListN.{get_or}
+use lib.Dec.{ltb, eqb}
+use borrow.Author.Tests.{le-ltb, ltb-true, ltb-false, eq-eqb, eqb-true}
+use Rattle.std.specs.Prelude.{Option, Some, None, Result, Ok, is_err}
 use Rattle.diagrams.specs.Tree.{Tree, node, mk_t, named, Canon, Under, low_t, high_t}
 use Rattle.diagrams.specs.Store.{Table, blank, tree, Store, Done, Makes}
 use Rattle.diagrams.specs.Memo.{Stamped, Recalls, Keeps}
-use Rattle.diagrams.specs.declared.Made.{Made}
+use Rattle.diagrams.specs.declared.Full.{Full}
 use Rattle.diagrams.specs.declared.Split.{Split}
-use Rattle.diagrams.specs.declared.Known.{Known}
-use Rattle.diagrams.proofs.Trees.{test, no_both}
-use Rattle.diagrams.proofs.Canonical.{canon_weaken}
+use Rattle.diagrams.proofs.Trees.{test}
 use Rattle.diagrams.proofs.Meets.{canon_low, canon_high}
 use Rattle.diagrams.proofs.Making.{kept}
 use Rattle.diagrams.proofs.Children.{tree_inner, child_low, child_high, child_le}
-use Rattle.diagrams.proofs.Steps.{done_tree, done_count}
-use Rattle.diagrams.proofs.Memos.{keeps_size, stamped_recall, stamped_remember, stamped_weaken}
-use Rattle.diagram_loops.specs.Loops.{Parted}
+use Rattle.diagrams.proofs.Memos.{stamped_recall, stamped_remember}
+use Rattle.diagram_loops.specs.Loops.{Parts, Kept}
 use Rattle.diagram_loops.specs.declared.Waiting.{Waiting}
-use Rattle.diagram_loops.proofs.Loops.{Lawful, Down, Up, Ready, down_made, down_full, empty, up_frame, up_makes}
 use Rattle.cube_bits.specs.Following.{Following}
 use Rattle.cube_bits.proofs.Words.{following_later}
 use Rattle.utility.specs.Adding.{add_at}
 use Rattle.utility_add.specs.Adds.{Asks, Added, Adds}
-use Rattle.cube_bits.specs.Cuts.{Parts}
+use Rattle.cube_bits.specs.Cuts.{Parts as Cut}
 use Rattle.cube_bits.proofs.Cutting.{bit_below}
-use Rattle.utility_add.specs.Adding.{Addable, adding, Ends}
+use Rattle.utility_add.specs.Adding.{Addable, adding, ending_of, Right}
 use Rattle.utility_add.specs.Sums.{add_from}
-use Rattle.utility_add.proofs.Sums.{from_outside, from_none, from_all, from_end, from_sum, from_canon, from_root, from_bit, under_sides}
+use Rattle.utility_add.proofs.Sums.{from_outside, from_none, from_all, from_end, from_sum, from_root, from_bit, under_sides}
 
-pub lawful : (care value w : ℕ) → Lawful (adding care value w)
-lawful care value w =
-    record {
-      grows = λ s s' up old n x k f.
-          let e = old x f.below in
-          (rw e, record { below = omega (arith, f.below); level = f.level; from = f.from; order = rw e f.order; room = rw e f.room; next = f.next });
-      owns = λ s s' up old f o. tt;
-      canon = λ s n x k f.
-          ⊎_elim
-          (λ (e : k ≡ 65). rw (from_outside care value w k (tree s x) e) (canon_weaken n f.level (tree s x) f.from f.order))
-          (λ (y : Following care f.level k). canon_weaken n f.level _ f.from (from_canon care value w f.level k (tree s x) f.order y))
-          f.next;
-    }
+some_same : {v w : ℕ} → ◌≡◌ {A = Option ℕ} (Some v) (Some w) → v ≡ w
+some_same e = cc
 
-pub not-true : (f : Bool) → not f ≡ true → f ≡ false
-not-true true e = absurd (no_both refl (sym e))
-not-true false e = refl
+none_some : {v : ℕ} → ◌≡◌ {A = Option ℕ} None (Some v) → ⊥
+none_some e = cc
 
-pub not-false : (f : Bool) → not f ≡ false → f ≡ true
-not-false true e = refl
-not-false false e = absurd (no_both refl e)
+-- an end value that takes the weight, and none
+pub ends_some : (bit : List ℕ) (x k b : ℕ) → ending_of bit x k ≡ Some b → (k ≡ 64) × ((2 ≤ x) × ((64 ≤ b) × (b ≡ get_or bit (x - 2) 0)))
+ends_some bit x k b is =
+    ⊎_elim
+    (λ (e : eqb k 64 ≡ true).
+    ⊎_elim
+    (λ (f : ltb x 2 ≡ true). absurd (none_some (rw (e, f) at is)))
+    (λ (f : ltb x 2 ≡ false).
+    ⊎_elim
+    (λ (g : ltb (get_or bit (x - 2) 0) 64 ≡ true). absurd (none_some (rw (e, f, g) at is)))
+    (λ (g : ltb (get_or bit (x - 2) 0) 64 ≡ false).
+    let q : get_or bit (x - 2) 0 ≡ b = some_same (rw (e, f, g) at is) in
+    (eqb-true k 64 e, (ltb-false x 2 f, (omega (arith, q, ltb-false (get_or bit (x - 2) 0) 64 g), sym q))))
+    (test (ltb (get_or bit (x - 2) 0) 64)))
+    (test (ltb x 2)))
+    (λ (e : eqb k 64 ≡ false). absurd (none_some (rw e at is)))
+    (test (eqb k 64))
 
--- what is asked at the beginning, and what is then made
-pub asks_fit : (s : Table) (k care w a y : ℕ) → Asks s k care w a → Following care k y → Addable care w s 0 a y
-asks_fit s k care w a y q n = record { below = q.below; level = k; from = omega arith; order = q.order; room = q.room; next = inr n }
+pub ends_none : (bit : List ℕ) (x k : ℕ) → ending_of bit x k ≡ None → 2 ≤ x → k ≡ 64 → get_or bit (x - 2) 0 < 64
+ends_none bit x k is two e =
+    ⊎_elim
+    (λ (g : ltb (get_or bit (x - 2) 0) 64 ≡ true). ltb-true (get_or bit (x - 2) 0) 64 g)
+    (λ (g : ltb (get_or bit (x - 2) 0) 64 ≡ false). absurd (none_some (sym (rw (eq-eqb k 64 e, le-ltb x 2 two, g) at is))))
+    (test (ltb (get_or bit (x - 2) 0) 64))
 
-pub asks_sum : (s : Table) (k care value w a y : ℕ) → Asks s k care w a → Following care k y → (f : Bool) → f ≡ true → add_from care value w y (tree s a) ≡ add_at f k care value w (tree s a)
-unfolding add_at
-asks_sum s k care value w a y q n f e = rw e (from_sum care value w k y (tree s a) q.order n)
+-- what is made, from what is asked at the beginning
+module _ (s : Table) (stamp k care value w a : ℕ) (q : Asks s k care w a) where
+  pub add_in : (y : ℕ) → Following care k y → (f : Bool) → f ≡ true → (s' : Table) (memo' : List ℕ) (r : Result ℕ Full) → Makes s s' r (add_from care value w y (tree s a)) → (is_err r ≡ false → Right care value w stamp s' memo') → Adds s s' memo' stamp care value w r (add_at f k care value w (tree s a))
+  unfolding add_at
+  add_in y n f e s' memo' r m right = rw e (record { makes = rw (from_sum care value w k y (tree s a) q.order n) at m; keeps = λ x. (right x).stamped })
 
--- a tree by another account
-pub makes_sum : (s s' : Table) (r : Made) (t u : Tree) → t ≡ u → Makes s s' r t → Makes s s' r u
-makes_sum s s' r t u e m = rw (← e) m
-
--- the cube has no state at all
-pub add_out : (s : Table) → Store s → (stamp k care value w a : ℕ) → Asks s k care w a → (memo : List ℕ) → Stamped blank memo stamp (Added s care value w) → (f : Bool) → f ≡ false → Adds s s memo stamp care value w (record { name = a; count = s.count; full = false }) (add_at f k care value w (tree s a))
-unfolding add_at
-add_out s st stamp k care value w a q memo m f e = record { makes = kept s st a _ q.below (rw e); keeps = λ _. m }
+  -- the cube has no state at all
+  pub add_out : Store s → (memo : List ℕ) → Stamped blank memo stamp (Added s care value w) → (f : Bool) → f ≡ false → Adds s s memo stamp care value w (Ok a) (add_at f k care value w (tree s a))
+  unfolding add_at
+  add_out st memo m f e = rw e (record { makes = kept s st a _ q.below refl; keeps = λ _. m })
 
 -- a name without a node stands for itself
 flat : (s : Table) (care value w k n : ℕ) → n < 2 → tree s n ≡ add_from care value w k (tree s n)
@@ -81,22 +81,21 @@ flat s care value w k zero lt = sym (from_none care value w k)
 flat s care value w k (suc zero) lt = sym (from_all care value w k)
 flat s care value w k (suc (suc n)) lt = absurd (omega arith)
 
--- the next bit is one, or 64 or 65
-pub fit_upto : (care w : ℕ) (s : Table) (n x k : ℕ) → Addable care w s n x k → k ≤ 65
-fit_upto care w s n x k f = ⊎_elim (λ (e : k ≡ 65). omega arith) (λ (y : Following care f.level k). omega (arith, y.upto)) f.next
-
 module _ (s : Table) (st : Store s) (care value w n x k : ℕ) (f : Addable care w s n x k) where
+  shown : (r : ℕ) → r < s.count + 2 → tree s r ≡ add_from care value w k (tree s x) → Done s s r (add_from care value w k (tree s x))
+  shown r lt e = (kept s st r _ lt e).done refl
+
   -- the cube has none of the states
-  pub shown_outside : k ≡ 65 → (x < s.count + 2) × (tree s x ≡ add_from care value w k (tree s x))
-  shown_outside e = (f.below, sym (from_outside care value w k (tree s x) e))
+  pub shown_outside : k ≡ 65 → Done s s x (add_from care value w k (tree s x))
+  shown_outside e = shown x f.below (sym (from_outside care value w k (tree s x) e))
 
   -- a name without a node
-  pub shown_flat : x < 2 → (x < s.count + 2) × (tree s x ≡ add_from care value w k (tree s x))
-  shown_flat lt = (f.below, flat s care value w k x lt)
+  pub shown_flat : x < 2 → Done s s x (add_from care value w k (tree s x))
+  shown_flat lt = shown x f.below (flat s care value w k x lt)
 
   -- the memo has the result
-  pub shown_recalled : (memo : List ℕ) (stamp : ℕ) → Stamped blank memo stamp (Added s care value w) → (m : Known) → Recalls memo stamp x k m → m.known ≡ true → (m.name < s.count + 2) × (tree s m.name ≡ add_from care value w k (tree s x))
-  shown_recalled memo stamp right m rc e = let q = stamped_recall blank memo stamp (Added s care value w) x k m right rc e in (q.r_below, q.means)
+  pub shown_recalled : (memo : List ℕ) (stamp : ℕ) → Stamped blank memo stamp (Added s care value w) → (r : ℕ) → Recalls memo stamp x k (Some r) → Done s s r (add_from care value w k (tree s x))
+  shown_recalled memo stamp right r rc = let q = stamped_recall blank memo stamp (Added s care value w) x k r right rc in shown r q.r_below q.means
 
   module _ (two : 2 ≤ x) where
     abbrev b : ℕ
@@ -126,7 +125,7 @@ module _ (s : Table) (st : Store s) (care value w n x k : ℕ) (f : Addable care
     unfolding named
     end_sum e ge = rw inner (from_end care value w k b (tree s l) (tree s h) e ge)
 
-    module _ (small : care < 281474976710656) (inside : k ≡ 65 → ⊥) (past : k ≡ 64 → b < 64) (p : Split) (c : Parts s.bit s.low s.high care value x k p) where
+    module _ (small : care < 281474976710656) (inside : k ≡ 65 → ⊥) (past : k ≡ 64 → b < 64) (p : Split) (c : Cut s.bit s.low s.high care value x k p) (stamp : ℕ) where
       next : Following care f.level k
       next = ⊎_elim (λ (e : k ≡ 65). absurd (inside e)) (λ (y : Following care f.level k). y) f.next
 
@@ -142,7 +141,7 @@ module _ (s : Table) (st : Store s) (care value w n x k : ℕ) (f : Addable care
       high_le : p.ah ≤ x
       high_le = omega (arith, c.a_high, child_le s st s.high st.high_earlier p.bit x f.below)
 
-      frame : f.level ≤ p.bit → p.bit < 64 → p.bit ≤ b → add_from care value w k t ≡ mk_t p.bit (add_from care value w p.bl (tree s p.al)) (add_from care value w p.bh (tree s p.ah)) → (p.bl ≡ 65) ⊎ Following care (suc p.bit) p.bl → (p.bh ≡ 65) ⊎ Following care (suc p.bit) p.bh → p.al + (65 - p.bl) < x + (65 - k) → p.ah + (65 - p.bh) < x + (65 - k) → Parted (adding care value w) s n x k (record { a = x; b = k; part = p; lo = 4294967295 })
+      frame : f.level ≤ p.bit → p.bit < 64 → p.bit ≤ b → add_from care value w k t ≡ mk_t p.bit (add_from care value w p.bl (tree s p.al)) (add_from care value w p.bh (tree s p.ah)) → (p.bl ≡ 65) ⊎ Following care (suc p.bit) p.bl → (p.bh ≡ 65) ⊎ Following care (suc p.bit) p.bh → p.al + (65 - p.bl) < x + (65 - k) → p.ah + (65 - p.bh) < x + (65 - k) → Parts (adding care value w stamp) s n x k (record { a = x; b = k; part = p; lo = 4294967295 })
       unfolding Canon
       frame lv lt le nd nl nh ll hl =
           let v = p.bit in
@@ -163,7 +162,7 @@ module _ (s : Table) (st : Store s) (care value w n x k : ℕ) (f : Addable care
           }
 
       -- at the root bit
-      at_root : b < k → Parted (adding care value w) s n x k (record { a = x; b = k; part = p; lo = 4294967295 })
+      at_root : b < k → Parts (adding care value w stamp) s n x k (record { a = x; b = k; part = p; lo = 4294967295 })
       unfolding Canon
       at_root lt =
           let e = c.root lt in
@@ -179,7 +178,7 @@ module _ (s : Table) (st : Store s) (care value w n x k : ℕ) (f : Addable care
           (omega (arith, ah, e.1.1, st.high_earlier (x - 2) (omega (arith, f.below))))
 
       -- at the next bit
-      at_bit : k ≤ b → Parted (adding care value w) s n x k (record { a = x; b = k; part = p; lo = 4294967295 })
+      at_bit : k ≤ b → Parts (adding care value w stamp) s n x k (record { a = x; b = k; part = p; lo = 4294967295 })
       unfolding Canon
       at_bit ge =
           let e = c.cared ge in
@@ -196,64 +195,31 @@ module _ (s : Table) (st : Store s) (care value w n x k : ℕ) (f : Addable care
           frame (omega (arith, q, next.from)) (omega (arith, q, lt)) (omega (arith, q, ge)) nd (inl o.1.0) (inr nh) (omega (arith, low_le, o.1.0, lt)) (omega (arith, high_le, o.1.1.from, lt)))
           e.1
 
-      pub looked_parted : Parted (adding care value w) s n x k (record { a = x; b = k; part = p; lo = 4294967295 })
+      pub looked_parted : Parts (adding care value w stamp) s n x k (record { a = x; b = k; part = p; lo = 4294967295 })
       looked_parted = ⊎_elim (λ (e : ltb b k ≡ true). at_root (ltb-true b k e)) (λ (e : ltb b k ≡ false). at_bit (ltb-false b k e)) (test (ltb b k))
-
--- the memo is right
-abbrev pub Right : ℕ → ℕ → ℕ → ℕ → Table → List ℕ → Type 0
-Right stamp care value w s memo = Stamped blank memo stamp (Added s care value w)
-
--- results stay as entries are added
-added_grow : (s s' : Table) (st : Store s) (n : ℕ) (t : Tree) (d : Done s s' n t) (care value w a k r : ℕ) → Added s care value w a k r → Added s' care value w a k r
-added_grow s s' st n t d care value w a k r q =
-    let up = done_count s s' st n t d in
-    record {
-      a_below = omega (arith, q.a_below);
-      r_below = omega (arith, q.r_below);
-      means = rw (done_tree s s' st n t d a q.a_below, done_tree s s' st n t d r q.r_below) q.means;
-    }
-
-ready_more : (z stamp care value w : ℕ) (s s' : Table) (memo : List ℕ) → Store s → (n : ℕ) (t : Tree) → Done s s' n t → Ready (Right stamp care value w) z s memo → Ready (Right stamp care value w) z s' memo
-ready_more z stamp care value w s s' memo st n t d m =
-    record { right = stamped_weaken blank blank memo stamp (Added s care value w) (Added s' care value w) (added_grow s s' st n t d care value w) m.right.base m.right; size = m.size }
-
--- a result is put into the memo
-pub kept_ready : (care value w : ℕ) → {s₀ s : Table} {u : Tree} {stack : List Waiting} {depth r : ℕ} (k : Up (adding care value w) s₀ s u stack depth r) (some : depth ≡ 0 → ⊥) (ne : (get_or stack (depth - 1) empty).lo ≡ 4294967295 → ⊥) (s₁ : Table) (q : Made) → Makes s s₁ q (mk_t (get_or stack (depth - 1) empty).part.bit (tree s (get_or stack (depth - 1) empty).lo) (tree s r)) → q.full ≡ false → (z stamp : ℕ) (memo : List ℕ) → Ready (Right stamp care value w) z s memo → (memo' : List ℕ) → Keeps memo memo' stamp (get_or stack (depth - 1) empty).a (get_or stack (depth - 1) empty).b q.name → Ready (Right stamp care value w) z s₁ memo'
-kept_ready care value w {s = s} {stack = stack} {depth = depth} k some ne s₁ q m e z stamp memo rd memo' kp =
-    let g = get_or stack (depth - 1) empty in
-    let st = k.walk.run.store in
-    let d = (up_makes (lawful care value w) k some ne s₁ q m).done e in
-    let f = (up_frame (lawful care value w) k some).fit in
-    let up = done_count s s₁ st q.name _ d in
-    let new : Added s₁ care value w g.a g.b q.name = record { a_below = omega (arith, f.below, up); r_below = d.within; means = rw (done_tree s s₁ st q.name _ d g.a f.below) d.means } in
-    record {
-      right = stamped_remember blank memo stamp (Added s₁ care value w) memo' g.a g.b q.name (ready_more z stamp care value w s s₁ memo st q.name _ d rd).right new kp;
-      size = rd.size ∙ sym (keeps_size memo memo' stamp g.a g.b q.name kp);
-    }
 
 -- the two names without a node may stand below any bit
 pub flat_canon : (s : Table) (n : ℕ) → Canon n (tree s 0) × Canon n (tree s 1)
 unfolding named Canon
 flat_canon s n = (tt, tt)
 
--- at an end value that takes the weight
-module _ (care value w : ℕ) {s₀ s : Table} {u : Tree} {stack : List Waiting} {depth x y : ℕ} (k : Down (adding care value w) s₀ s u stack depth x y) (b : ℕ) (e : Ends s.bit x y b) (some : b ≡ 0 → ⊥) where
+-- an end value that takes the weight is made
+module _ (s : Table) (st : Store s) (care value w n x k : ℕ) (f : Addable care w s n x k) (b : ℕ) (e : ending_of s.bit x k ≡ Some b) where
   pub end_room : b + w < 4294967296
-  end_room = let q = e.some some in rw q.1.1.1 (end_fits s k.walk.run.store care value w _ x y k.fit q.1.0)
+  end_room = let q = ends_some s.bit x k b e in omega (arith, q, end_fits s st care value w n x k f q.1.0)
 
-  module _ (s₁ : Table) (r : Made) (m : Makes s s₁ r (mk_t (b + w) (tree s 0) (tree s 1))) where
-    end_made : Makes s s₁ r (add_from care value w y (tree s x))
-    end_made =
-        let q = e.some some in
-        let z = q.1.1 in
-        let is : add_from care value w y (tree s x) ≡ mk_t (b + w) (tree s 0) (tree s 1) = rw z.1 (end_sum s k.walk.run.store care value w _ x y k.fit q.1.0 q.0 (omega (arith, z.0, z.1))) in
-        makes_sum s s₁ r _ _ (sym is) m
+  pub end_made : (s' : Table) (r : Result ℕ Full) → Makes s s' r (mk_t (b + w) (tree s 0) (tree s 1)) → Makes s s' r (add_from care value w k (tree s x))
+  end_made s' r m =
+      let q = ends_some s.bit x k b e in
+      let is : add_from care value w k (tree s x) ≡ mk_t (b + w) (tree s 0) (tree s 1) = rw q.1.1.1 (end_sum s st care value w n x k f q.1.0 q.0 (omega (arith, q))) in
+      rw is m
 
-    pub end_full : (s' : Table) → r.full ≡ true → Makes s₀ s' r u
-    end_full s' f = down_full (lawful care value w) k s₁ s' r end_made f
-
-    pub end_up : r.full ≡ false → length s₁.bit ≡ length s.bit → Up (adding care value w) s₀ s₁ u stack depth r.name
-    end_up f len = down_made (lawful care value w) k s₁ r.name (end_made.done f) len
-
-    pub end_ready : r.full ≡ false → (z stamp : ℕ) (memo : List ℕ) → Ready (Right stamp care value w) z s memo → Ready (Right stamp care value w) z s₁ memo
-    end_ready f z stamp memo rd = ready_more z stamp care value w s s₁ memo k.walk.run.store r.name _ (end_made.done f) rd
+-- a result is put into the memo
+pub kept_right : (care value w stamp : ℕ) (memo memo' : List ℕ) (g : Waiting) (r : ℕ) → Keeps memo memo' stamp g.a g.b r → Kept (adding care value w stamp) memo memo' g r
+kept_right care value w stamp memo memo' g r k =
+    record {
+      right = λ s n f o lt e q. record {
+        small = q.small;
+        stamped = stamped_remember blank memo stamp (Added s care value w) memo' g.a g.b r q.stamped (record { a_below = f.below; r_below = lt; means = e }) k;
+      };
+    }

@@ -15,8 +15,9 @@ use Rattle.diagrams.proofs.Meets.{canon_low, canon_high}
 use Rattle.cube_bits.specs.Following.{Uncared, Following}
 use Rattle.cube_bits.proofs.Words.{word_later, word_bits_lem, uncared_within, following_later}
 use Rattle.utility.specs.Adding.{plus_t, digit, low_in, high_in, add_t}
-use Rattle.utility.proofs.Adds.{add_none, add_all, add_plain, canon_add}
+use Rattle.utility.proofs.Adds.{add_none, add_all, add_plain}
 use Rattle.utility_add.specs.Sums.{level_t, add_from}
+use Rattle.utility_add.specs.Lawful.{level_range}
 use Rattle.cube_bits.specs.Cuts.{Sides}
 
 -- nothing is added
@@ -96,12 +97,6 @@ module _ (care value w : ℕ) where
       (sum_up d n (n + d) t refl (canon_weaken (n + d) (suc (n + d)) t (omega arith) c') (uncared_within care n m n (n + d) z (omega arith) (omega (arith, q)))
       ∙ sum_skip (n + d) t (z.at (n + d) (omega arith) (omega (arith, q))) c')
 
-  level_range : (n k : ℕ) (t : Tree) → Canon n t → n ≤ k → Canon (level_t k t) t × ((n ≤ level_t k t) × (level_t k t ≤ k))
-  unfolding Canon level_t
-  level_range n k none c le = (tt, (le, omega arith))
-  level_range n k all c le = (tt, (le, omega arith))
-  level_range n k (node b l h) c le = ((omega arith, c.1, c.2, c.3), (omega (arith, c.0), omega arith))
-
   -- from whatever bit on no bit comes before k
   pub from_sum : (n k : ℕ) (t : Tree) → Canon n t → Following care n k → add_from care value w k t ≡ add_t (48 - n) n care value w t
   unfolding add_from
@@ -109,9 +104,6 @@ module _ (care value w : ℕ) where
       let r = level_range n k t c x.from in
       rw (ne_eqb k 65 (omega (arith, x.upto)))
       (sym (sum_up (level_t k t - n) n (level_t k t) t (omega (arith, r.1.0)) r.0 (uncared_within care n k n (level_t k t) x.uncared (omega arith) r.1.1)))
-
-  pub from_canon : (n k : ℕ) (t : Tree) → Canon n t → Following care n k → Canon n (add_from care value w k t)
-  from_canon n k t c x = rw (from_sum n k t c x) (canon_add care value w (48 - n) n t c)
 
   module _ (small : care < 281474976710656) where
     -- the sides of a root bit that the cube does not care for

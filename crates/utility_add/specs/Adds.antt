@@ -3,7 +3,8 @@ use Rattle.std.specs.Prelude.{ℕ, ◌+◌, ◌-◌, ◌≤◌, ◌<◌, ◌≡�
 use Rattle.diagrams.specs.Tree.{Tree, Canon, Under}
 use Rattle.diagrams.specs.Store.{Table, blank, tree, Makes}
 use Rattle.diagrams.specs.Memo.{Stamped}
-use Rattle.diagrams.specs.declared.Made.{Made}
+use Rattle.std.specs.Prelude.{Result, is_err}
+use Rattle.diagrams.specs.declared.Full.{Full}
 use Rattle.utility_add.specs.Sums.{add_from}
 
 -- the bits of the name's tree are k or more, the cube has bits of states only, and no sum is too large for the node lists
@@ -21,6 +22,6 @@ pub record Added (s : Table) (care value w a k r : ℕ) : Type 0 where
   pub means : tree s r ≡ add_from care value w k (tree s a)
 
 -- the tree t is made, and the memo holds results of this operation; it remembers none that lasts, since the table is none of state sets
-pub record Adds (s s' : Table) (memo' : List ℕ) (stamp care value w : ℕ) (r : Made) (t : Tree) : Type 0 where
+pub record Adds (s s' : Table) (memo' : List ℕ) (stamp care value w : ℕ) (r : Result ℕ Full) (t : Tree) : Type 0 where
   pub makes : Makes s s' r t
-  pub keeps : r.full ≡ false → Stamped blank memo' stamp (Added s' care value w)
+  pub keeps : is_err r ≡ false → Stamped blank memo' stamp (Added s' care value w)

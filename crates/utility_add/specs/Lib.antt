@@ -1,3 +1,4 @@
 pub mod Sums
 pub mod Adding
 pub mod Adds
+pub mod Lawful

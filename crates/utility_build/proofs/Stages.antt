@@ -16,7 +16,9 @@ use Rattle.diagrams.specs.Tree.{Tree, none, all, same, mk_t, named, trees, value
 use Rattle.diagrams.specs.Store.{Table, table, blank, tree, Store, Done, Makes}
 use Rattle.diagrams.specs.Memo.{Memo}
 use Rattle.diagrams.specs.Sets.{MakesAll}
-use Rattle.diagrams.specs.declared.Made.{Made}
+use Rattle.std.specs.Prelude.{Result, Ok, is_err}
+use Rattle.diagrams.specs.declared.Full.{Full}
+use Rattle.diagrams.specs.Store.{name_of}
 use Rattle.diagrams.proofs.Trees.{mk_t_same}
 use Rattle.diagrams.proofs.Empty.{store_empty}
 use Rattle.diagrams.proofs.Sequence.{AllInside, all_length, all_one, all_idle, all_full, all_then}
@@ -37,26 +39,26 @@ module _ (f : List ℕ) (s : Table) (memo : List ℕ) (a t : ℕ) (rd : Ready f 
   end = stage f (terms f)
 
   -- all terms are added
-  none_left : terms f ≤ t → MakesAll s s (record { name = a; count = s.count; full = false }) after end
+  none_left : terms f ≤ t → MakesAll s s (Ok a) after end
   unfolding stages_after AllInside
   none_left le =
       let e : t ≡ terms f = omega (arith, rd.last) in
       let z : terms f - t ≡ 0 = omega arith in
       rw z (all_idle s rd.store a [] end tt rd.below (rd.means ∙ ap (stage f) e))
 
-  module _ (lt : t < terms f) (s₁ : Table) (memo₁ : List ℕ) (r : Made) (m : AddsTerm f s s₁ memo₁ r t) where
+  module _ (lt : t < terms f) (s₁ : Table) (memo₁ : List ℕ) (r : Result ℕ Full) (m : AddsTerm f s s₁ memo₁ r t) where
     one_more : after ≡ stage f (suc t) ∷ stages_after f (terms f - (t + 1)) (t + 1)
     unfolding stages_after
     one_more = let e : terms f - t ≡ suc (terms f - (t + 1)) = omega arith in rw (e, add-one t)
 
-    term_full : r.full ≡ true → (s' : Table) → MakesAll s s' r after end
+    term_full : is_err r ≡ true → (s' : Table) → MakesAll s s' r after end
     term_full e s' = rw one_more (all_full s s₁ s' r (stage f (suc t) ∷ []) (stages_after f (terms f - (t + 1)) (t + 1)) (stage f (suc t)) end (all_one s s₁ r (stage f (suc t)) m.makes) e)
 
-    module _ (e : r.full ≡ false) where
-      abbrev done : Done s s₁ r.name (stage f (suc t))
+    module _ (e : is_err r ≡ false) where
+      abbrev done : Done s s₁ (name_of r) (stage f (suc t))
       done = m.makes.done e
 
-      next_ready : Ready f s₁ memo₁ r.name (t + 1)
+      next_ready : Ready f s₁ memo₁ (name_of r) (t + 1)
       next_ready =
           record {
             right = rd.right;
@@ -68,27 +70,27 @@ module _ (f : List ℕ) (s : Table) (memo : List ℕ) (a t : ℕ) (rd : Ready f 
             sums = rw (add-one t) (sum_more f t m.light rd.sums);
           }
 
-      terms_made : length s₁.bit ≡ length s.bit → (s₂ : Table) (q : Made) → MakesAll s₁ s₂ q (stages_after f (terms f - (t + 1)) (t + 1)) end → MakesAll s s₂ q after end
+      terms_made : length s₁.bit ≡ length s.bit → (s₂ : Table) (q : Result ℕ Full) → MakesAll s₁ s₂ q (stages_after f (terms f - (t + 1)) (t + 1)) end → MakesAll s s₂ q after end
       terms_made len s₂ q n =
-          rw one_more (all_then s s₁ s₂ rd.store r.name q (stage f (suc t) ∷ []) (stages_after f (terms f - (t + 1)) (t + 1)) (stage f (suc t)) end ((all_one s s₁ r (stage f (suc t)) m.makes).done e) len n)
+          rw one_more (all_then s s₁ s₂ rd.store (name_of r) q (stage f (suc t) ∷ []) (stages_after f (terms f - (t + 1)) (t + 1)) (stage f (suc t)) end ((all_one s s₁ r (stage f (suc t)) m.makes).done e) len n)
 
--- the first k terms are added, t of them before; what is made of the rest is then made of all
-pub record TermsAdded (f : List ℕ) (s₀ s : Table) (memo : List ℕ) (name t k : ℕ) : Type 0 where
+-- the first k terms are added; what is made of the rest is then made of all
+pub record TermsAdded (f : List ℕ) (s₀ s : Table) (memo : List ℕ) (name k : ℕ) : Type 0 where
   pub ready : Ready f s memo name k
-  pub rest : (s' : Table) (r : Made) → MakesAll s s' r (stages_after f (terms f - k) k) (stage f (terms f)) → MakesAll s₀ s' r (stages_after f (terms f - t) t) (stage f (terms f))
+  pub rest : (s' : Table) (r : Result ℕ Full) → MakesAll s s' r (stages_after f (terms f - k) k) (stage f (terms f)) → MakesAll s₀ s' r (stages_after f (terms f) 0) (stage f (terms f))
 
-pub added_none : (f : List ℕ) (s : Table) (memo : List ℕ) (a t : ℕ) → Ready f s memo a t → TermsAdded f s s memo a t t
-added_none f s memo a t rd = record { ready = rd; rest = λ s' r m. m }
+pub added_none : (f : List ℕ) (s : Table) (memo : List ℕ) (a : ℕ) → Ready f s memo a 0 → TermsAdded f s s memo a 0
+added_none f s memo a rd = let z : terms f - 0 ≡ terms f = omega arith in record { ready = rd; rest = λ s' r m. rw z at m }
 
-module _ (f : List ℕ) (s₀ s : Table) (memo : List ℕ) (name t k : ℕ) (p : TermsAdded f s₀ s memo name t k) where
-  pub added_end : terms f ≤ k → MakesAll s₀ s (record { name = name; count = s.count; full = false }) (stages_after f (terms f - t) t) (stage f (terms f))
-  added_end le = p.rest s _ (none_left f s memo name k p.ready le)
+module _ (f : List ℕ) (s₀ s : Table) (memo : List ℕ) (name k : ℕ) (p : TermsAdded f s₀ s memo name k) where
+  pub added_end : terms f ≤ k → MakesAll s₀ s (Ok name) (stages_after f (terms f) 0) (stage f (terms f))
+  added_end le = p.rest s (Ok name) (none_left f s memo name k p.ready le)
 
-  module _ (lt : k < terms f) (s₁ : Table) (memo₁ : List ℕ) (r : Made) (m : AddsTerm f s s₁ memo₁ r k) where
-    pub added_full : r.full ≡ true → MakesAll s₀ s₁ r (stages_after f (terms f - t) t) (stage f (terms f))
+  module _ (lt : k < terms f) (s₁ : Table) (memo₁ : List ℕ) (r : Result ℕ Full) (m : AddsTerm f s s₁ memo₁ r k) where
+    pub added_full : is_err r ≡ true → MakesAll s₀ s₁ r (stages_after f (terms f) 0) (stage f (terms f))
     added_full e = p.rest s₁ r (term_full f s memo name k p.ready lt s₁ memo₁ r m e s₁)
 
-    pub added_next : r.full ≡ false → length s₁.bit ≡ length s.bit → TermsAdded f s₀ s₁ memo₁ r.name t (k + 1)
+    pub added_next : is_err r ≡ false → length s₁.bit ≡ length s.bit → TermsAdded f s₀ s₁ memo₁ (name_of r) (k + 1)
     added_next e len = record { ready = next_ready f s memo name k p.ready lt s₁ memo₁ r m e; rest = λ s' q n. p.rest s' q (terms_made f s memo name k p.ready lt s₁ memo₁ r m e len s' q n) }
 
 -- the diagram of a constant is its end
@@ -121,16 +123,16 @@ module _ (f : List ℕ) where
   unfolding last_of
   stage_last = sym (last_after (terms f) 0 ∙ ap (stage f) (zero-add (terms f))) ∙ ap (last_of none) (sym all_stages) ∙ last_stage (task_of f)
 
--- the whole diagram
-module _ (f : List ℕ) (right : accepted f ≡ true) (bit low high heads chain : List ℕ) (el : length low ≡ length bit) (eh : length high ≡ length bit) (short : length bit ≤ 1048576) where
-  -- the lists as they came
-  abbrev came : Table
-  came = table bit low high heads chain 0
+-- the whole diagram, in lists that came with any entries
+module _ (f : List ℕ) (right : accepted f ≡ true) (s : Table) (el : length s.low ≡ length s.bit) (eh : length s.high ≡ length s.bit) (short : length s.bit ≤ 1048576) where
+  -- the lists without entries
+  abbrev empty : Table
+  empty = table s.bit s.low s.high s.heads s.chain 0
 
-  pub empty_store : Store came
-  empty_store = store_empty bit low high heads chain el eh short
+  pub empty_store : Store empty
+  empty_store = store_empty s.bit s.low s.high s.heads s.chain el eh short
 
-  built : (s' : Table) (r : Made) → MakesAll came s' r (stage f 0 ∷ stages_after f (terms f) 0) (stage f (terms f)) → Builds came s' r (task_of f)
+  built : (s' : Table) (r : Result ℕ Full) → MakesAll empty s' r (stage f 0 ∷ stages_after f (terms f) 0) (stage f (terms f)) → Builds s s' r (task_of f)
   unfolding entry_count trees
   built s' r m =
       record {
@@ -140,29 +142,27 @@ module _ (f : List ℕ) (right : accepted f ≡ true) (bit low high heads chain 
             record {
               store = d.store;
               grown = rw (all_stages f) d.grown;
-              counted = rw (all_stages f) (all_length came s' empty_store r.name _ _ d);
-              rest = d.rest;
+              counted = rw (all_stages f) (all_length empty s' empty_store (name_of r) _ _ d);
+              rest = record { bit_rest = d.rest.bit_rest; low_rest = d.rest.low_rest; high_rest = d.rest.high_rest };
               within = d.within;
               means = d.means ∙ stage_last f;
             };
       }
 
-  module _ (s₁ : Table) (r : Made) (m : Makes came s₁ r (mk_t 64 (tree came 0) (tree came 1))) where
-    zero_made : Makes came s₁ r (stage f 0)
+  module _ (s₁ : Table) (r : Result ℕ Full) (m : Makes empty s₁ r (mk_t 64 (tree empty 0) (tree empty 1))) where
+    zero_made : Makes empty s₁ r (stage f 0)
     unfolding named
     zero_made = rw (stage_zero f) m
 
-    pub zero_full : r.full ≡ true → (s' : Table) → Builds came s' r (task_of f)
-    zero_full e s' = built s' r (all_full came s₁ s' r (stage f 0 ∷ []) (stages_after f (terms f) 0) (stage f 0) (stage f (terms f)) (all_one came s₁ r (stage f 0) zero_made) e)
+    pub zero_full : is_err r ≡ true → (s' : Table) → Builds s s' r (task_of f)
+    zero_full e s' = built s' r (all_full empty s₁ s' r (stage f 0 ∷ []) (stages_after f (terms f) 0) (stage f 0) (stage f (terms f)) (all_one empty s₁ r (stage f 0) zero_made) e)
 
-    module _ (e : r.full ≡ false) where
-      pub zero_ready : (memo : List ℕ) → Memo blank memo → Ready f s₁ memo r.name 0
+    module _ (e : is_err r ≡ false) where
+      pub zero_ready : (memo : List ℕ) → Memo blank memo → Ready f s₁ memo (name_of r) 0
       unfolding sum_to
       zero_ready memo m =
           let d = zero_made.done e in
           record { right = right; store = d.store; slots = m; below = d.within; means = d.means; last = omega arith; sums = λ σ. omega arith }
 
-      pub whole : length s₁.bit ≡ length bit → (s' : Table) (q : Made) → MakesAll s₁ s' q (stages_after f (terms f - 0) 0) (stage f (terms f)) → Builds came s' q (task_of f)
-      whole len s' q a =
-          let z : terms f - 0 ≡ terms f = omega arith in
-          built s' q (all_then came s₁ s' empty_store r.name q (stage f 0 ∷ []) (stages_after f (terms f) 0) (stage f 0) (stage f (terms f)) ((all_one came s₁ r (stage f 0) zero_made).done e) len (rw z at a))
+      pub whole : length s₁.bit ≡ length s.bit → (s' : Table) (q : Result ℕ Full) → MakesAll s₁ s' q (stages_after f (terms f) 0) (stage f (terms f)) → Builds s s' q (task_of f)
+      whole len s' q a = built s' q (all_then empty s₁ s' empty_store (name_of r) q (stage f 0 ∷ []) (stages_after f (terms f) 0) (stage f 0) (stage f (terms f)) ((all_one empty s₁ r (stage f 0) zero_made).done e) len a)

@@ -16,7 +16,8 @@ use Rattle.task_states.specs.declared.cubes.Cube.{Cube}
 use Rattle.task.proofs.Acceptance.{sound}
 use Rattle.task.proofs.Goodness.{facts_right_lem}
 use Rattle.diagrams.specs.Store.{Table, tree}
-use Rattle.diagrams.specs.declared.Made.{Made}
+use Rattle.std.specs.Prelude.{Result}
+use Rattle.diagrams.specs.declared.Full.{Full}
 use Rattle.diagrams.proofs.Entries.{tree_canon}
 use Rattle.utility.specs.Adding.{add_at}
 use Rattle.utility.proofs.Shapes.{value_under, under_more}
@@ -70,5 +71,5 @@ module _ (f : List ℕ) (right : accepted f ≡ true) where
           (add_enough c.care c.value (term_in f t).weight 48 (bits (sizes f)) 0 _ (div-eq_of_lt small) (div-eq_of_lt within)
           ∙ rw (m.care, m.value) (add_term (sizes f) (term_in f t) (sum_to f t) term_facts_lem (omega (arith, few))))
 
-      pub term_added : (s' : Table) (memo' : List ℕ) (stamp : ℕ) (r : Made) → Adds s s' memo' stamp c.care c.value w r (add_at true 0 c.care c.value w (tree s a)) → AddsTerm f s s' memo' r t
+      pub term_added : (s' : Table) (memo' : List ℕ) (stamp : ℕ) (r : Result ℕ Full) → Adds s s' memo' stamp c.care c.value w r (add_at true 0 c.care c.value w (tree s a)) → AddsTerm f s s' memo' r t
       term_added s' memo' stamp r d = record { makes = rw term_stage at d.makes; keeps = λ x. (d.keeps x).base; light = rw weighs at light }

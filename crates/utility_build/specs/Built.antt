@@ -8,7 +8,9 @@ use Rattle.task.specs.Check.{accepted}
 use Rattle.diagrams.specs.Tree.{Tree, value_end, diagram, grow_all}
 use Rattle.diagrams.specs.Store.{Table, blank, entries, tree, Store, Rest, Makes}
 use Rattle.diagrams.specs.Memo.{Memo}
-use Rattle.diagrams.specs.declared.Made.{Made}
+use Rattle.std.specs.Prelude.{Result, is_err}
+use Rattle.diagrams.specs.declared.Full.{Full}
+use Rattle.diagrams.specs.Store.{name_of}
 use Rattle.utility.specs.Stages.{plus_term, stages, entry_count, utility_tree}
 
 -- the utility of a list of bits by the first t terms
@@ -36,9 +38,9 @@ pub record Ready (f : List ℕ) (s : Table) (memo : List ℕ) (a t : ℕ) : Type
   pub sums : (σ : List Bool) → sum_to f t σ ≤ 65535 * t
 
 -- the next stage is made, and the memo remembers nothing that lasts; the term's weight has two bytes
-pub record AddsTerm (f : List ℕ) (s s' : Table) (memo' : List ℕ) (r : Made) (t : ℕ) : Type 0 where
+pub record AddsTerm (f : List ℕ) (s s' : Table) (memo' : List ℕ) (r : Result ℕ Full) (t : ℕ) : Type 0 where
   pub makes : Makes s s' r (stage f (suc t))
-  pub keeps : r.full ≡ false → Memo blank memo'
+  pub keeps : is_err r ≡ false → Memo blank memo'
   pub light : (term_in f t).weight < 65536
 
 -- the lists hold the different nodes of all stages, later entries stay, and the name stands for the utility diagram
@@ -51,6 +53,6 @@ pub record Built (s s' : Table) (name : ℕ) (t : Task) : Type 0 where
   pub means : tree s' name ≡ utility_tree t
 
 -- full exactly where the entry count is above the length of the lists
-pub record Builds (s s' : Table) (r : Made) (t : Task) : Type 0 where
-  pub full : r.full ≡ ltb (length s.bit) (entry_count t)
-  pub done : r.full ≡ false → Built s s' r.name t
+pub record Builds (s s' : Table) (r : Result ℕ Full) (t : Task) : Type 0 where
+  pub full : is_err r ≡ ltb (length s.bit) (entry_count t)
+  pub done : is_err r ≡ false → Built s s' (name_of r) t

@@ -7,7 +7,9 @@ use native.Mathlib.Omega.{arith}
 use lib.ListN.{length, get_or, drop}
 use Rattle.planning.specs.Coding.{width, bits, offset}
 use Rattle.planning.specs.Ceiling.{ceiling}
-use Rattle.diagrams.specs.Store.{Table, table, tree}
+use Rattle.diagrams.specs.Store.{Table, table, tree, table_of, view_table, Views}
+use Rattle.diagrams.specs.declared.Nodes.{Nodes}
+use Rattle.diagrams.specs.declared.NodeView.{NodeView}
 use Rattle.diagrams.proofs.Empty.{store_empty}
 use Rattle.task.specs.Format.{variables, size}
 use Rattle.task.specs.Check.{accepted}
@@ -49,6 +51,7 @@ module _ (f : List ℕ) (ok : accepted f ≡ true) where
         from_ends (sizes f) s v at (width d) there at-is (ap width d_at) next (d - 1) rest left tight b z (omega (arith, two_values) ∙ d_at)
 
   -- the greatest utility within the permitted states, and 1
-  pub ceiling_found : (s x : Table) (name root m : ℕ) → From (sizes f) s name 0 → Valued (task_of f) x root → m ≡ most_t (tree s name) (tree x root) → m ≡ suc (ceiling (task_of f))
+  pub ceiling_found : (n : Nodes) (e : NodeView) (x : Table) (name root m : ℕ) → Views n e → From (sizes f) (table_of n) name 0 → Valued (task_of f) x root → m ≡ most_t (tree (view_table e) name) (tree x root) → m ≡ suc (ceiling (task_of f))
   unfolding task_of offset
-  ceiling_found s x name root m b u e = e ∙ rw (b.stands.means, u.means) (permitted_within (task_of f) (good f ok) (sound f ok).few_bits)
+  ceiling_found n e x name root m v b u is =
+      is ∙ rw (v.bit_is, v.low_is, v.high_is, v.count_is) (rw (b.stands.means, u.means) (permitted_within (task_of f) (good f ok) (sound f ok).few_bits))

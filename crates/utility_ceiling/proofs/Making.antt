@@ -1,7 +1,7 @@
 -- The bits of a variable, from its last up: what stands for the bound so far, and after all of them for the permitted values. Assumes nothing.
 use Prim.Native.Nat.{ℕ, zero, suc, ◌+◌, ◌-◌, ◌*◌, ◌/◌, ◌%◌, ◌^◌, ◌≤◌, ◌<◌}
 use mathlib.Core.Path.{◌≡◌, refl, sym, ap, subst, ◌∙◌}
-use mathlib.Core.Bool.{Bool, true, false}
+use mathlib.Core.Bool.{Bool, true, false, true≢false}
 use mathlib.Core.Logic.{⊎_elim}
 use mathlib.Core.List.{List, [], ◌∷◌}
 use native.Mathlib.Omega.{arith, pow_step}
@@ -15,7 +15,8 @@ use Rattle.planning.proofs.Facts.{offset_suc, offset_all}
 use Rattle.planning.proofs.Widths.{width_fits}
 use Rattle.diagrams.specs.Tree.{Tree, none, node, named, same, has, mk_t, end_t, diagram, grow, Canon}
 use Rattle.diagrams.specs.Store.{Table, entries, tree, Store, Makes}
-use Rattle.diagrams.specs.declared.Made.{Made}
+use Rattle.std.specs.Prelude.{Result, Ok, Err, is_err, IsOk}
+use Rattle.diagrams.specs.declared.Full.{Full}
 use Rattle.diagrams.proofs.Trees.{Inside, test, same_true, same_refl, no_both, mk_t_same, mk_t_node, insert_old, insert_new, grow_inside}
 use Rattle.diagrams.proofs.Entries.{entries_length, entries_inside}
 use Rattle.diagrams.proofs.Steps.{done_count, done_tree}
@@ -27,6 +28,9 @@ use Rattle.utility_ceiling.specs.Sets.{Filled, Stands, Behind, bound_t, Adds, Fr
 use Rattle.utility_ceiling.proofs.Bounds.{bound_one, bound_zero, bound_none}
 
 -- ---- one node more
+ok_of : (r : Result ℕ Full) → is_err r ≡ false → IsOk r
+ok_of (Ok x) e = refl
+ok_of (Err x) e = absurd (true≢false e)
 
 module _ (ts : List Tree) (b : ℕ) (l h : Tree) (il : Inside ts l) (ih : Inside ts h) where
   -- a node over two trees that are there is at most one entry more
@@ -43,7 +47,7 @@ module _ (ts : List Tree) (b : ℕ) (l h : Tree) (il : Inside ts l) (ih : Inside
       (test (has ts (node b l h)))))
       (test (same l h))
 
-module _ (s s' : Table) (r : Made) (b l h : ℕ) (f : Filled s (suc b)) (lb : l < s.count + 2) (hb : h < s.count + 2) where
+module _ (s s' : Table) (b l h : ℕ) (f : Filled s (suc b)) (lb : l < s.count + 2) (hb : h < s.count + 2) where
   abbrev made : Tree
   made = mk_t b (tree s l) (tree s h)
 
@@ -53,31 +57,34 @@ module _ (s s' : Table) (r : Made) (b l h : ℕ) (f : Filled s (suc b)) (lb : l 
       omega (arith, node_length (entries s) b (tree s l) (tree s h) (entries_inside s st l lb) (entries_inside s st h hb), entries_length s st)
 
   -- the lists have room for it
-  pub adds_node : Makes s s' r (mk_t b (tree s l) (tree s h)) → length s'.bit ≡ length s.bit → Adds s s' r.name b (mk_t b (tree s l) (tree s h))
-  adds_node m len =
-      let st = f.store in
+  pub node_fits : (r : Result ℕ Full) → Makes s s' r (mk_t b (tree s l) (tree s h)) → IsOk r
+  node_fits r m =
       let room : s.count + suc b ≤ 48 = f.room in
-      let fits : r.full ≡ false = m.full ∙ le-ltb (length s.bit) (length (grow (entries s) made)) (omega (arith, few, f.long)) in
-      let d = m.done fits in
+      ok_of r (m.full ∙ le-ltb (length s.bit) (length (grow (entries s) made)) (omega (arith, few, f.long)))
+
+  pub adds_node : (name : ℕ) → Makes s s' (Ok name) (mk_t b (tree s l) (tree s h)) → length s'.bit ≡ length s.bit → Adds s s' name b (mk_t b (tree s l) (tree s h))
+  adds_node name m len =
+      let room : s.count + suc b ≤ 48 = f.room in
+      let d = m.done refl in
       let count : s'.count ≡ length (grow (entries s) made) = sym (entries_length s' d.store) ∙ ap length d.grown in
       record {
         filled = record {
           store = d.store;
           long = len ∙ f.long;
           room = omega (arith, few);
-          states = under_done 64 s s' r.name made d f.states (under_mk_t 64 b (tree s l) (tree s h) (omega arith) (f.states l) (f.states h));
+          states = under_done 64 s s' name made d f.states (under_mk_t 64 b (tree s l) (tree s h) (omega arith) (f.states l) (f.states h));
         };
         done = d;
       }
 
 -- both ways to put a bit in front
-pub adds_one : (s s' : Table) (r : Made) (b next tight : ℕ) (one : Bool) → one ≡ true → Behind s b next tight → Makes s s' r (mk_t b (tree s next) (tree s tight)) → length s'.bit ≡ length s.bit → Adds s s' r.name b (bound_t one b (tree s next) (tree s tight))
+pub adds_one : (s s' : Table) (name b next tight : ℕ) (one : Bool) → one ≡ true → Behind s b next tight → Makes s s' (Ok name) (mk_t b (tree s next) (tree s tight)) → length s'.bit ≡ length s.bit → Adds s s' name b (bound_t one b (tree s next) (tree s tight))
 unfolding bound_t
-adds_one s s' r b next tight one e p m len = rw e (adds_node s s' r b next tight p.filled p.next_within p.tight_within m len)
+adds_one s s' name b next tight one e p m len = rw e (adds_node s s' b next tight p.filled p.next_within p.tight_within name m len)
 
-pub adds_zero : (s s' : Table) (r : Made) (b next tight : ℕ) (one : Bool) → one ≡ false → Behind s b next tight → Makes s s' r (mk_t b (tree s tight) (tree s 0)) → length s'.bit ≡ length s.bit → Adds s s' r.name b (bound_t one b (tree s next) (tree s tight))
+pub adds_zero : (s s' : Table) (name b next tight : ℕ) (one : Bool) → one ≡ false → Behind s b next tight → Makes s s' (Ok name) (mk_t b (tree s tight) (tree s 0)) → length s'.bit ≡ length s.bit → Adds s s' name b (bound_t one b (tree s next) (tree s tight))
 unfolding bound_t named
-adds_zero s s' r b next tight one e p m len = rw e (adds_node s s' r b tight 0 p.filled p.tight_within (omega arith) m len)
+adds_zero s s' name b next tight one e p m len = rw e (adds_node s s' b tight 0 p.filled p.tight_within (omega arith) name m len)
 
 -- ---- names keep what they stand for
 module _ (s s' : Table) (name b : ℕ) (t : Tree) (st : Store s) (a : Adds s s' name b t) where

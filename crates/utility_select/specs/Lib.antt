@@ -1,2 +1,3 @@
 pub mod Select
 pub mod Selecting
+pub mod Lawful

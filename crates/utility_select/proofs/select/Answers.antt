@@ -1,15 +1,17 @@
-use Rattle.diagrams.specs.Store.{table}
+use Rattle.diagrams.specs.Store.{table_of, view_table}
+use Rattle.diagrams.proofs.Entries.{tree_canon}
 use Rattle.diagrams.proofs.Memos.{stamp_fresh}
-use Rattle.utility.specs.Reading.{nodes}
 use Rattle.utility_select.specs.Select.{Selected}
 use Rattle.utility_select.proofs.select.Goals as goal
 
-pub select_stamped-requires : goal.select_stamped-requires
-select_stamped-requires c =
-    let sets = table c.args.bit.now c.args.low.now c.args.high.now c.args.heads.now c.args.chain.now c.args.count in
-    let values = nodes c.args.ubit.now c.args.ulow.now c.args.uhigh.now c.args.ucount in
-    record { store = c.requires.store; a_bound = c.requires.a_bound; fact = stamp_fresh sets c.args.memo.now c.stamp-stamp.new.memo c.stamp-stamp.result (Selected values c.args.value sets) c.requires.memo c.stamp-stamp.ensures }
-
-pub returns : goal.returns
-returns c =
-    let k = c.select_stamped.ensures in record { makes = k.makes; keeps = λ f. (k.keeps f).base }
+pub run-requires : goal.run-requires
+run-requires c =
+    let s = table_of c.args.nodes.now in
+    let x = view_table c.args.utility in
+    let st = c.requires.store in
+    let below = c.requires.a_bound in
+    record {
+      store = st.0;
+      right = record { values = st.1; stamped = stamp_fresh s c.args.memo.now c.stamp-stamp.new.memo c.stamp-stamp.result (Selected x c.args.value s) c.requires.memo c.stamp-stamp.ensures };
+      fit = record { a_below = below.0; d_below = below.1; a_from = tree_canon s st.0 c.args.a below.0; d_from = tree_canon x st.1 c.args.u below.1 };
+    }
