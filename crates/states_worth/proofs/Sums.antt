@@ -1,6 +1,6 @@
 -- What a sum of terms is and how great, and the greatest of some. Assumes nothing.
 use Prim.Native.Nat.{ℕ, ◌+◌, ◌*◌, ◌≤◌, ◌<◌}
-use mathlib.Core.Path.{◌≡◌, refl, sym, ap, ◌∙◌}
+use mathlib.Core.Path.{◌≡◌, refl, sym}
 use mathlib.Core.Bool.{Bool, true, false}
 use mathlib.Core.List.{List}
 use native.Mathlib.Omega.{arith}
@@ -8,19 +8,15 @@ use native.Mathlib.Numerals.{add-one}
 use borrow.Author.Count.{below_more}
 use lib.ListN.{get_or}
 use Rattle.planning.specs.Connectives.{pick}
-use Rattle.planning.proofs.Guards.{pick_yes, pick_no}
 use Rattle.states_moves.specs.Words.{meets}
-use Rattle.states_worth.specs.Worth.{weight_at, care_at, value_at, gain_at, worth_of, Weighed, Greatest}
+use Rattle.states_worth.specs.declared.Weighted.{Weighted}
+use Rattle.states_worth.specs.Worth.{nothing, weight_at, care_at, value_at, gain_at, worth_of, Weighed, Greatest}
 
-module _ (table : List ℕ) (j s : ℕ) where
-  -- the term's facts hold, or not
-  pub gain_yes : (b : Bool) → b ≡ meets (get_or table (3 * j + 1) 0) (get_or table (3 * j + 2) 0) s → b ≡ true → get_or table (3 * j) 0 ≡ gain_at table j s
+module _ (table : List Weighted) (j s : ℕ) where
+  -- what the code finds of term j
+  pub gain_is : (w : Weighted) → w ≡ get_or table j nothing → pick (meets w.facts.care w.facts.value s) w.weight 0 ≡ gain_at table j s
   unfolding gain_at weight_at care_at value_at
-  gain_yes b e h = pick_yes _ _ _ _ (sym e ∙ h) refl
-
-  pub gain_no : (b : Bool) → b ≡ meets (get_or table (3 * j + 1) 0) (get_or table (3 * j + 2) 0) s → b ≡ false → 0 ≡ gain_at table j s
-  unfolding gain_at weight_at care_at value_at
-  gain_no b e h = pick_no _ _ _ _ (sym e ∙ h) refl
+  gain_is w e = rw e
 
   -- a term is worth its weight at most
   gain_most : gain_at table j s ≤ weight_at table j
@@ -31,31 +27,26 @@ module _ (table : List ℕ) (j s : ℕ) where
       by true = omega arith
       by false = omega arith
 
-module _ (table : List ℕ) (n s : ℕ) where
+module _ (table : List Weighted) (n s : ℕ) where
   -- the sum of the first j of n terms
   abbrev pub SumTo : ℕ → ℕ → Type 0
-  SumTo sum j = (j ≤ n) × (sum ≡ worth_of table j s) × (sum ≤ 65535 * j)
+  SumTo sum j = (sum ≡ worth_of table j s) × (sum ≤ 65535 * j)
 
   pub sum_none : SumTo 0 0
   unfolding worth_of
-  sum_none = (omega arith, refl, omega arith)
+  sum_none = (refl, omega arith)
 
   pub sum_more : (sum j more : ℕ) → Weighed table n → j < n → SumTo sum j → more ≡ gain_at table j s → SumTo (sum + more) (j + 1)
   unfolding worth_of
   sum_more sum j more h lt inv e =
-      (omega arith, rw (inv.1, e, add-one), omega (arith, gain_most table j s, h.small j lt))
+      (rw (inv.0, e, add-one), omega (arith, gain_most table j s, h.small j lt))
 
   -- so the sum fits
   pub gain_small : (j more : ℕ) → Weighed table n → j < n → more ≡ gain_at table j s → more ≤ 65535
   gain_small j more h lt e = omega (arith, gain_most table j s, h.small j lt)
 
-  pub sum_done : (sum j : ℕ) → Weighed table n → n ≤ j → SumTo sum j → (sum ≡ worth_of table n s) × (sum < 16777216)
-  sum_done sum j h le inv =
-      let e : j ≡ n = omega arith in
-      (inv.1 ∙ ap (λ (k : ℕ). worth_of table k s) e, omega (arith, h.few))
-
 -- ---- the greatest of the first i states
-module _ (table : List ℕ) (n : ℕ) (states : List ℕ) where
+module _ (table : List Weighted) (n : ℕ) (states : List ℕ) where
   abbrev value : ℕ → ℕ
   value i = worth_of table n (get_or states i 0)
 

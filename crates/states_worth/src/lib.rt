@@ -1,65 +1,74 @@
 // The utility of states that are words, and the greatest of a list of states.
 #![tactic(auto)]
 
-ghost use Rattle.std.specs.Prelude.{◌≡◌, true, ℕ, ◌+◌, ◌*◌, ◌≤◌, ◌<◌, length, get_or};
+ghost use Rattle.std.specs.Prelude.{◌≡◌, true, ℕ, ◌≤◌, ◌<◌, length};
+ghost use Rattle.planning.specs.Connectives.{pick};
 ghost use Rattle.task.specs.Format.{terms};
 ghost use Rattle.task.specs.Check.{accepted};
-ghost use Rattle.states_worth.specs.Worth.{gain_at, worth_of, Weighed, TermRow, TermsTabled, Greatest};
+ghost use Rattle.states_moves.specs.Words.{meets};
+ghost use Rattle.states_worth.specs.Worth.{worth_of, Weighed, IsTerm, TermsTabled, Greatest};
 
 use states_moves::meets;
-use task::header::terms;
+use task_states::cubes::Cube;
 use task_states::model::{term_cube, term_weight};
 
-// The words of a term's row: its weight, and care and value of its facts.
-pub const TERM: usize = 3;
-
-// Writes the row of term j; the rows before it stay.
-fn row(file: &[u8], table: &mut [u64], j: usize)
-    requires { (accepted file.now ≡ true) × (j < terms file.now) × (3 * j + 3 ≤ length table.old) }
-    ensures { TermRow file.now table.new j × (length table.new ≡ length table.old) × ((i : ℕ) → i < 3 * j → get_or table.new i 0 ≡ get_or table.old i 0) }
-{
-    let c = term_cube(file, j);
-    let at = TERM * j;
-    table[at] = term_weight(file, j) as u64;
-    table[at + 1] = c.care;
-    table[at + 2] = c.value;
+// A term as words: its weight, and its facts as a cube.
+#[derive(Clone, Copy)]
+pub struct Weighted {
+    pub weight: u64,
+    pub facts: Cube,
 }
 
-// Fills the table with the terms of an accepted file.
-pub fn tabulate(file: &[u8], table: &mut [u64])
-    requires { (accepted file.now ≡ true) × (3 * terms file.now ≤ length table.old) }
+impl Weighted {
+    // A term that is worth nothing.
+    pub const NOTHING: Weighted = Weighted {
+        weight: 0,
+        facts: Cube { care: 0, value: 0 },
+    };
+
+    // What the term is worth in s.
+    #[tactic(auto, unfolding(planning::specs::Connectives::pick))]
+    fn gain(&self, s: u64) -> u64
+        ensures { result ≡ pick (meets self.now.facts.care self.now.facts.value s) self.now.weight 0 }
+    {
+        if meets(s, self.facts.care, self.facts.value) {
+            self.weight
+        } else {
+            0
+        }
+    }
+}
+
+// Term j of an accepted file.
+#[tactic(auto, using(crate::proofs::Rows::few_terms), unfolding(task::specs::Decode::task_of))]
+fn term(file: &[u8], j: usize) -> Weighted
+    requires { (accepted file.now ≡ true) × (j < terms file.now) }
+    ensures { IsTerm file.now result j }
+{
+    Weighted {
+        weight: term_weight(file, j) as u64,
+        facts: term_cube(file, j),
+    }
+}
+
+// Fills the table with the terms of an accepted file, of which it has room for all.
+pub fn tabulate(file: &[u8], table: &mut [Weighted])
+    requires { (accepted file.now ≡ true) × (length table.old ≡ terms file.now) }
     ensures { TermsTabled file.now table.new }
 {
-    let n = terms(file);
-    let mut j = 0;
-    while j < n {
-        row(file, table, j);
-        j += 1;
+    for (j, row) in table.iter_mut().enumerate() {
+        *row = term(file, j);
     }
 }
 
-// What term j is worth in s.
-fn gain(table: &[u64], j: usize, s: u64) -> u64
-    requires { 3 * j + 3 ≤ length table.now }
-    ensures { result ≡ gain_at table.now j s }
-{
-    if meets(s, table[TERM * j + 1], table[TERM * j + 2]) {
-        table[TERM * j]
-    } else {
-        0
-    }
-}
-
-// The utility of s, by the first n terms of the table.
-pub fn worth(table: &[u64], n: usize, s: u64) -> u64
-    requires { Weighed table.now n }
-    ensures { (result ≡ worth_of table.now n s) × (result < 16777216) }
+// The utility of s, by the terms of the table.
+pub fn worth(table: &[Weighted], s: u64) -> u64
+    requires { Weighed table.now (length table.now) }
+    ensures { (result ≡ worth_of table.now (length table.now) s) × (result < 16777216) }
 {
     let mut sum: u64 = 0;
-    let mut j = 0;
-    while j < n {
-        sum += gain(table, j, s);
-        j += 1;
+    for term in table {
+        sum += term.gain(s);
     }
     sum
 }
@@ -71,22 +80,20 @@ pub struct Top {
     pub at: usize,
 }
 
-// The greatest utility of the first states of the list, so many.
-pub fn greatest(table: &[u64], n: usize, states: &[u64], count: usize) -> Top
-    requires weighed { Weighed table.now n }
-    requires count_nonzero { (0 < count) × (count ≤ length states.now) }
-    ensures { Greatest table.now n states.now count result }
+// The greatest utility of some states.
+pub fn greatest(table: &[Weighted], states: &[u64]) -> Top
+    requires weighed { Weighed table.now (length table.now) }
+    requires some { 0 < length states.now }
+    ensures { Greatest table.now (length table.now) states.now (length states.now) result }
 {
-    let mut utility = worth(table, n, states[0]);
+    let mut utility = worth(table, states[0]);
     let mut at = 0;
-    let mut i = 1;
-    while i < count {
-        let u = worth(table, n, states[i]);
+    for i in 1..states.len() {
+        let u = worth(table, states[i]);
         if utility < u {
             utility = u;
             at = i;
         }
-        i += 1;
     }
     Top { utility, at }
 }
