@@ -1,14 +1,12 @@
 -- A plan that a search found fits its list.
-use Prim.Native.Nat.{ℕ}
-use mathlib.Core.Path.{◌≡◌, sym, ◌∙◌}
+use Prim.Native.Nat.{ℕ, ◌≤◌}
 use mathlib.Core.List.{List}
-use native.Mathlib.Omega.{arith}
 use lib.ListN.{length}
-use Rattle.search_answer.specs.declared.Searched.{Searched}
+use Rattle.std.proofs.Common.{Ok}
+use Rattle.search_answer.specs.declared.Listing.{Listing}
 use Rattle.search_answer.specs.Lent.{Lent}
 use Rattle.search.specs.Leaves.{Searches}
 use Rattle.search.proofs.Demands.{passed}
-use Rattle.osp_list.specs.StepsFit.{StepsFit}
 
-pub fits : (f : List ℕ) (before after : Lent) (r : Searched) (n : ℕ) → Searches f before after r → length before.plan ≡ n → StepsFit r n
-fits f before after r n s e = record { steps = λ l q. omega (arith, (passed f before l (sym q ∙ s.answers)).steps) }
+pub fits : (f : List ℕ) (before after : Lent) (l : Listing) → Searches f before after (Ok l) → l.steps ≤ length before.plan
+fits f before after l s = (passed f before l s.answers).steps

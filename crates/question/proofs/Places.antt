@@ -14,7 +14,8 @@ use Rattle.diagrams.specs.Tree.{Tree, named}
 use Rattle.search_theory.proofs.Bits.{member_word}
 use Rattle.question.specs.Question.{in_set, place_from}
 use Rattle.question.specs.PairSets.{held_at}
-use Rattle.question.specs.declared.Answered.TheVariants.{Reached, NotReached}
+use Rattle.question.specs.Answers.{reached}
+use Rattle.std.proofs.Common.{None}
 
 module _ (costs steps : List ℕ) (holds : ℕ → Bool) (n : ℕ) where
   abbrev pub LeftFrom : ℕ → Type 0
@@ -25,13 +26,13 @@ module _ (costs steps : List ℕ) (holds : ℕ → Bool) (n : ℕ) where
 
   pub place_more : (k : ℕ) → k < n → LeftFrom k → holds k ≡ false → LeftFrom (k + 1)
   unfolding place_from pick
-  place_more k h inv e = (omega arith, inv.1 ∙ rw (left n k h, add-one) (ap (λ (t : Bool). pick t (Reached (get_or costs k 0) (get_or steps k 0)) (place_from costs steps holds (n - suc k) (suc k))) e))
+  place_more k h inv e = (omega arith, inv.1 ∙ rw (left n k h, add-one) (ap (λ (t : Bool). pick t (reached (get_or costs k 0) (get_or steps k 0)) (place_from costs steps holds (n - suc k) (suc k))) e))
 
-  pub place_stop : (k : ℕ) → k < n → LeftFrom k → holds k ≡ true → Reached (get_or costs k 0) (get_or steps k 0) ≡ place_from costs steps holds n 0
+  pub place_stop : (k : ℕ) → k < n → LeftFrom k → holds k ≡ true → reached (get_or costs k 0) (get_or steps k 0) ≡ place_from costs steps holds n 0
   unfolding place_from pick
-  place_stop k h inv e = sym (inv.1 ∙ rw (left n k h) (ap (λ (t : Bool). pick t (Reached (get_or costs k 0) (get_or steps k 0)) (place_from costs steps holds (n - suc k) (suc k))) e))
+  place_stop k h inv e = sym (inv.1 ∙ rw (left n k h) (ap (λ (t : Bool). pick t (reached (get_or costs k 0) (get_or steps k 0)) (place_from costs steps holds (n - suc k) (suc k))) e))
 
-  pub place_done : (k : ℕ) → n ≤ k → LeftFrom k → NotReached ≡ place_from costs steps holds n 0
+  pub place_done : (k : ℕ) → n ≤ k → LeftFrom k → None ≡ place_from costs steps holds n 0
   unfolding place_from
   place_done k h inv = sym (inv.1 ∙ ap (λ (m : ℕ). place_from costs steps holds m k) (sub-eq-zero_of_le h))
 

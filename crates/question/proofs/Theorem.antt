@@ -29,14 +29,15 @@ use Rattle.task.specs.Check.{accepted}
 use Rattle.task.proofs.Goodness.{good}
 use Rattle.question.specs.Question.{state_right, in_set, place_from, ask_of, question_of}
 use Rattle.question.specs.Meaning.{NamesPairs, Tells}
-use Rattle.question.specs.declared.Answered.{Answered}
-use Rattle.question.specs.declared.Answered.TheVariants.{Refused, Reached, NotReached}
+use Rattle.std.proofs.Common.{Option, Some, None, Ok, Err}
+use Rattle.question.specs.declared.Place as told
+use Rattle.question.specs.Answers.{Answered, reached}
 use Rattle.question.proofs.States.{state_valid}
 
 -- what a scan of the n pairs from i finds: one whose set holds the state, or none
-data HeldPair (costs steps : List ℕ) (holds : ℕ → Bool) (n i : ℕ) : Answered → Type 0 where
-  first : (j : ℕ) → j < i + n → holds j ≡ true → HeldPair costs steps holds n i (Reached (get_or costs j 0) (get_or steps j 0))
-  nowhere : ((j : ℕ) → i ≤ j → j < i + n → holds j ≡ false) → HeldPair costs steps holds n i NotReached
+data HeldPair (costs steps : List ℕ) (holds : ℕ → Bool) (n i : ℕ) : Option told.Place → Type 0 where
+  first : (j : ℕ) → j < i + n → holds j ≡ true → HeldPair costs steps holds n i (reached (get_or costs j 0) (get_or steps j 0))
+  nowhere : ((j : ℕ) → i ≤ j → j < i + n → holds j ≡ false) → HeldPair costs steps holds n i None
 
 module _ (costs steps : List ℕ) (holds : ℕ → Bool) where
   held_pair : (n i : ℕ) → HeldPair costs steps holds n i (place_from costs steps holds n i)
@@ -44,7 +45,7 @@ module _ (costs steps : List ℕ) (holds : ℕ → Bool) where
   held_pair zero i = nowhere (λ j from to. absurd (omega arith))
   held_pair (suc n) i = by (holds i) refl (held_pair n (suc i))
     where
-      later : (r : Answered) → holds i ≡ false → HeldPair costs steps holds n (suc i) r → HeldPair costs steps holds (suc n) i r
+      later : (r : Option told.Place) → holds i ≡ false → HeldPair costs steps holds n (suc i) r → HeldPair costs steps holds (suc n) i r
       later r e (first j below h) = first j (omega arith) h
       later r e (nowhere out) = nowhere (λ j from to. at j from to (dec_lt i j))
         where
@@ -52,7 +53,7 @@ module _ (costs steps : List ℕ) (holds : ℕ → Bool) where
           at j from to (yes lt) = out j lt (omega arith)
           at j from to (no ge) = let same : i ≡ j = omega arith in rw (← same) e
 
-      by : (b : Bool) → holds i ≡ b → HeldPair costs steps holds n (suc i) (place_from costs steps holds n (suc i)) → HeldPair costs steps holds (suc n) i (pick b (Reached (get_or costs i 0) (get_or steps i 0)) (place_from costs steps holds n (suc i)))
+      by : (b : Bool) → holds i ≡ b → HeldPair costs steps holds n (suc i) (place_from costs steps holds n (suc i)) → HeldPair costs steps holds (suc n) i (pick b (reached (get_or costs i 0) (get_or steps i 0)) (place_from costs steps holds n (suc i)))
       by true e rest = first i (omega arith) e
       by false e rest = later (place_from costs steps holds n (suc i)) e rest
 
@@ -86,11 +87,11 @@ module _ (t : Task) (𝓖 : Good t) (costs steps sets wanted bit low high : List
       let held_at : held l.0 ≡ true = held_is l.0 lt ∙ rw l.2 ((t_true _).0 ((pairs_place t 𝓖 (c * stride t + k) s v).1 at)) in
       (l.0, lt, held_at)
 
-  tells : (r : Answered) → HeldPair costs steps held n 0 r → Tells t s r
+  tells : (r : Option told.Place) → HeldPair costs steps held n 0 r → Tells t s (Ok r)
   tells r (first i below h) = (place_at i (omega arith) h, due i (omega arith))
   tells r (nowhere out) = λ c k p d. let x = held_place c k p d in true≢false (sym x.2 ∙ out x.0 (omega arith) (omega (arith, x.1)))
 
-  asked : place_from costs steps held n 0 ≡ ask_of t.sizes s costs steps sets wanted bit low high count n
+  asked : Ok (place_from costs steps held n 0) ≡ ask_of t.sizes s costs steps sets wanted bit low high count n
   unfolding ask_of
   asked = pick_no _ _ _ _ names.equal (pick_no _ _ _ _ names.right (pick_yes _ _ _ _ right (pick_yes _ _ _ _ names.passes refl)))
 
@@ -106,21 +107,21 @@ module _ (f : List ℕ) (a : accepted f ≡ true) (costs steps sets wanted bit l
       rw (← e) (ask_tells (task_of f) (good f a) costs steps sets wanted bit low high count n names s right)
 
   -- so a place that is due is the answer
-  pub question_reached : (c k : ℕ) → Place (task_of f) s c k → Due (task_of f) c k → question_of f s costs steps sets wanted bit low high count n ≡ Reached c k
+  pub question_reached : (c k : ℕ) → Place (task_of f) s c k → Due (task_of f) c k → question_of f s costs steps sets wanted bit low high count n ≡ Ok (reached c k)
   unfolding task_of
   question_reached c k p d = by (question_of f s costs steps sets wanted bit low high count n) question_tells
     where
-      by : (r : Answered) → Tells (task_of f) s r → r ≡ Reached c k
-      by (Refused number place) h = absurd h
-      by (Reached d m) q = let u = place_unique (task_of f) s d m c k q.0 p in rw (u.0, u.1)
-      by NotReached none = absurd (none c k p d)
+      by : (r : Answered) → Tells (task_of f) s r → r ≡ Ok (reached c k)
+      by (Err refusal) h = absurd h
+      by (Ok (Some x)) q = let u = place_unique (task_of f) s x.cost x.steps c k q.0 p in rw (← u.0, ← u.1)
+      by (Ok None) none = absurd (none c k p d)
 
   -- and without one the state is not reached
-  pub question_not_reached : ((c k : ℕ) → Place (task_of f) s c k → Due (task_of f) c k → ⊥) → question_of f s costs steps sets wanted bit low high count n ≡ NotReached
+  pub question_not_reached : ((c k : ℕ) → Place (task_of f) s c k → Due (task_of f) c k → ⊥) → question_of f s costs steps sets wanted bit low high count n ≡ Ok None
   unfolding task_of
   question_not_reached none = by (question_of f s costs steps sets wanted bit low high count n) question_tells
     where
-      by : (r : Answered) → Tells (task_of f) s r → r ≡ NotReached
-      by (Refused number place) h = absurd h
-      by (Reached c k) q = absurd (none c k q.0 q.1)
-      by NotReached h = refl
+      by : (r : Answered) → Tells (task_of f) s r → r ≡ Ok None
+      by (Err refusal) h = absurd h
+      by (Ok (Some x)) q = absurd (none x.cost x.steps q.0 q.1)
+      by (Ok None) h = refl

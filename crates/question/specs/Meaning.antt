@@ -1,5 +1,5 @@
 -- What the question's answer is to say of a task, and of which lists it says so.
-use Rattle.std.specs.Prelude.{ℕ, ◌<◌, ◌≡◌, true, false, List, length, get_or}
+use Rattle.std.specs.Prelude.{ℕ, ◌<◌, ◌≡◌, true, false, List, length, get_or, Some, None, Ok, Err}
 use Rattle.planning.specs.Model.{Task}
 use Rattle.planning.specs.Coding.{bits}
 use Rattle.planning.specs.Best.{Place}
@@ -11,8 +11,7 @@ use Rattle.search_theory.specs.Bits.{bit_task}
 use Rattle.search_theory.specs.Levels.{level}
 use Rattle.search_theory.specs.Stop.{pair_task}
 use Rattle.search_theory.specs.Pairs.{pairs}
-use Rattle.question.specs.declared.Answered.{Answered}
-use Rattle.question.specs.declared.Answered.TheVariants.{Refused, Reached, NotReached}
+use Rattle.question.specs.Answers.{Answered}
 
 -- the lists pass 12 and 21, and hold the cost, the steps and the name of the set of each of the task's n non-empty pairs that are made: so a
 -- successful search leaves them
@@ -28,6 +27,6 @@ pub record NamesPairs (t : Task) (costs steps sets wanted bit low high : List �
 -- the answer is the place of the state s, its least cost and the fewest steps at that cost, if the search makes that pair, else "not
 -- reached"
 abbrev pub Tells : Task → List ℕ → Answered → Type 0
-Tells t s (Refused number place) = ⊥
-Tells t s (Reached c k) = Place t s c k × Due t c k
-Tells t s NotReached = (c k : ℕ) → Place t s c k → Due t c k → ⊥
+Tells t s (Err refusal) = ⊥
+Tells t s (Ok (Some p)) = Place t s p.cost p.steps × Due t p.cost p.steps
+Tells t s (Ok None) = (c k : ℕ) → Place t s c k → Due t c k → ⊥

@@ -10,26 +10,36 @@ ghost use Rattle.task.specs.Decode.{sizes};
 ghost use Rattle.question.specs.Question.{value_right, state_right, place_from, ask_of, question_of};
 ghost use Rattle.question.specs.PairSets.{PairSets, held_at};
 
+use diagrams::NodeView;
 use diagrams::member::member;
 use lent_lists::{listed, lists_wrong, pairs_wrong};
+use refusal::Refusal;
 use task::bytes::byte;
 use task::coding::bits;
 use task::header::variables;
 use task::records::size;
-use task_check::{Checked, check};
+use task_check::check;
 use task_states::cubes::state_word;
 
-// What the question answers (specs/Answers.antt has the documents' number and values for each case).
+// Where a state is reached: cost and steps of the first pair whose set holds it.
+#[derive(Clone, Copy, PartialEq, Eq, Debug)]
+pub struct Place {
+    pub cost: usize,
+    pub steps: usize,
+}
+
+// The lists of pairs that a search left, with so many pairs in them: cost, steps, and the names of set and wanted set.
 #[derive(Clone, Copy)]
-pub enum Answered {
-    // The refusal's number, and the record that it is about, or 0.
-    Refused { number: u8, place: u16 },
-    // Cost and steps of the first pair whose set holds the state.
-    Reached { cost: usize, steps: usize },
-    NotReached,
+pub struct Pairs<'a> {
+    pub costs: &'a [u32],
+    pub steps: &'a [u32],
+    pub sets: &'a [u32],
+    pub wanted: &'a [u32],
+    pub count: usize,
 }
 
 // The value of variable v is in its range.
+#[tactic(auto, using(crate::proofs::States::value_is))]
 fn value_right(file: &[u8], state: &[u8], v: usize) -> bool
     requires { (v < variables file.now) × (v < 65536) }
     ensures { result ≡ value_right (sizes file.now) state.now v }
@@ -38,115 +48,86 @@ fn value_right(file: &[u8], state: &[u8], v: usize) -> bool
 }
 
 // 20: there is a value for each variable, and each is in its range.
+#[tactic(auto, using(crate::proofs::States::state_short, crate::proofs::States::value_wrong, crate::proofs::States::values_right, planning::proofs::Scan::every_more))]
 fn state_right(file: &[u8], state: &[u8]) -> bool
     ensures { result ≡ state_right (sizes file.now) state.now }
 {
-    let n = variables(file);
-    if state.len() != n {
+    if state.len() != variables(file) {
         return false;
     }
-    let mut v = 0;
-    while v < n {
+    for v in 0..state.len() {
         if !value_right(file, state, v) {
             return false;
         }
-        v += 1;
     }
     true
 }
 
-// Cost and steps of the first of n pairs whose set holds the state.
-fn place(
-    costs: &[u32],
-    steps: &[u32],
-    sets: &[u32],
-    bit: &[u32],
-    low: &[u32],
-    high: &[u32],
-    count: usize,
-    n: usize,
-    state: u64,
-) -> Answered
-    requires { PairSets costs.now steps.now sets.now bit.now low.now high.now count n }
-    ensures { let entries = trees bit.now low.now high.now count in
-        result ≡ place_from costs.now steps.now (held_at sets.now entries state) n 0 }
+// Cost and steps of the first pair whose set holds the state.
+#[tactic(auto, using(crate::proofs::Places::place_more, crate::proofs::Places::place_stop, crate::proofs::Places::place_done), unfolding(crate::specs::PairSets::held_at))]
+fn first_place(pairs: Pairs, nodes: NodeView, state: u64) -> Option<Place>
+    requires { PairSets pairs.costs.now pairs.steps.now pairs.sets.now nodes.bit.now nodes.low.now nodes.high.now nodes.count pairs.count }
+    ensures { let entries = trees nodes.entry.bit.now nodes.entry.low.now nodes.entry.high.now nodes.entry.count in
+        result ≡ place_from pairs.entry.costs.now pairs.entry.steps.now (held_at pairs.entry.sets.now entries state) pairs.entry.count 0 }
 {
-    let mut i = 0;
-    while i < n {
-        if member(bit, low, high, count, sets[i], state) {
-            return Answered::Reached {
-                cost: costs[i] as usize,
-                steps: steps[i] as usize,
-            };
+    for i in 0..pairs.count {
+        if member(nodes, pairs.sets[i], state) {
+            return Some(Place {
+                cost: pairs.costs[i] as usize,
+                steps: pairs.steps[i] as usize,
+            });
         }
-        i += 1;
     }
-    Answered::NotReached
-}
-
-// A refusal that is about no record.
-fn refusal(number: u8) -> Answered
-    ensures { result ≡ Answered.Refused number 0 }
-{
-    Answered::Refused { number, place: 0 }
+    None
 }
 
 // The tests from 12 on, and the answer, for an accepted file.
-fn ask(
-    file: &[u8],
-    state: &[u8],
-    costs: &[u32],
-    steps: &[u32],
-    sets: &[u32],
-    wanted: &[u32],
-    bit: &[u32],
-    low: &[u32],
-    high: &[u32],
-    count: usize,
-    pairs: usize,
-) -> Answered
+#[tactic(auto, using(crate::proofs::Asking::ask_pairs, crate::proofs::Asking::ask_lists, crate::proofs::Asking::ask_state, crate::proofs::Asking::ask_listed, crate::proofs::Asking::ask_place, crate::proofs::States::few_bits, crate::proofs::States::state_long))]
+fn ask(file: &[u8], state: &[u8], pairs: Pairs, nodes: NodeView) -> Result<Option<Place>, Refusal>
     requires { accepted file.now ≡ true }
-    ensures { result ≡ ask_of (sizes file.now) state.now
-        costs.now steps.now sets.now wanted.now bit.now low.now high.now count pairs }
+    ensures { result ≡ ask_of (sizes file.now) state.now pairs.entry.costs.now pairs.entry.steps.now pairs.entry.sets.now pairs.entry.wanted.now
+        nodes.entry.bit.now nodes.entry.low.now nodes.entry.high.now nodes.entry.count pairs.entry.count }
 {
-    if pairs_wrong(costs.len(), steps.len(), sets.len(), wanted.len()) {
-        return refusal(12);
+    if pairs_wrong(
+        pairs.costs.len(),
+        pairs.steps.len(),
+        pairs.sets.len(),
+        pairs.wanted.len(),
+    ) {
+        return Err(Refusal::ListLengths);
     }
-    if lists_wrong(bit.len(), low.len(), high.len()) {
-        return refusal(12);
+    if lists_wrong(nodes.bit.len(), nodes.low.len(), nodes.high.len()) {
+        return Err(Refusal::ListLengths);
     }
     if !state_right(file, state) {
-        return refusal(20);
+        return Err(Refusal::State);
     }
-    if !listed(bits(file), pairs, sets, bit, low, high, count) {
-        return refusal(21);
+    if !listed(
+        bits(file),
+        pairs.count,
+        pairs.sets,
+        nodes.bit,
+        nodes.low,
+        nodes.high,
+        nodes.count,
+    ) {
+        return Err(Refusal::Lists);
     }
-    let word = state_word(file, state);
-    place(costs, steps, sets, bit, low, high, count, pairs, word)
+    Ok(first_place(pairs, nodes, state_word(file, state)))
 }
 
-// The cost and the steps of the first pair, of that many, whose set in the lists holds the state: one byte for each variable, in file
+// The cost and the steps of the first of the pairs whose set in the node lists holds the state: one byte for each variable, in file
 // order. Tests 1 to 10 and 12, without utility lists, then 20 and 21.
+#[tactic(auto, using(task_check::proofs::Laws::told_accepted, task_check::proofs::Laws::told_refused, crate::proofs::Asking::file_refused, crate::proofs::Asking::file_accepted))]
 pub fn question(
     file: &[u8],
     state: &[u8],
-    costs: &[u32],
-    steps: &[u32],
-    sets: &[u32],
-    wanted: &[u32],
-    bit: &[u32],
-    low: &[u32],
-    high: &[u32],
-    count: usize,
-    pairs: usize,
-) -> Answered
-    ensures { result ≡ question_of file.now state.now
-        costs.now steps.now sets.now wanted.now bit.now low.now high.now count pairs }
+    pairs: Pairs,
+    nodes: NodeView,
+) -> Result<Option<Place>, Refusal>
+    ensures { result ≡ question_of file.now state.now pairs.entry.costs.now pairs.entry.steps.now pairs.entry.sets.now pairs.entry.wanted.now
+        nodes.entry.bit.now nodes.entry.low.now nodes.entry.high.now nodes.entry.count pairs.entry.count }
 {
-    if let Checked::Refused { number, place } = check(file) {
-        return Answered::Refused { number, place };
-    }
-    ask(
-        file, state, costs, steps, sets, wanted, bit, low, high, count, pairs,
-    )
+    check(file)?;
+    ask(file, state, pairs, nodes)
 }

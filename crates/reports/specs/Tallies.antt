@@ -1,7 +1,7 @@
 -- The answer of the engine that lists states as C gets it: the documents' number and value, and the figures.
-use Rattle.std.specs.Prelude.{ℕ}
+use Rattle.std.specs.Prelude.{ℕ, Result}
 use Rattle.states_answer.specs.declared.Summary.{Summary}
-use Rattle.states_answer.specs.declared.Enumerated.{Enumerated}
+use Rattle.refusal.specs.declared.Refusal.{Refusal}
 use Rattle.states_answer.specs.Answers.{numbers, figures}
 use Rattle.shift_time.specs.Time.{time_of}
 use Rattle.reports.specs.declared.Tally.{Tally}
@@ -22,5 +22,5 @@ tally_with number value m = record {
 }
 
 -- the number and value of an answer, and its figures, all 0 after a refusal
-abbrev pub tally_of : Enumerated → Tally
+abbrev pub tally_of : Result Summary Refusal → Tally
 tally_of r = tally_with (numbers r).0 (numbers r).1 (figures r)

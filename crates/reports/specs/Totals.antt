@@ -1,7 +1,7 @@
 -- A search's answer as C gets it: the documents' number and value, and the figures.
-use Rattle.std.specs.Prelude.{ℕ}
+use Rattle.std.specs.Prelude.{ℕ, Result}
 use Rattle.search_answer.specs.declared.Listing.{Listing}
-use Rattle.search_answer.specs.declared.Searched.{Searched}
+use Rattle.refusal.specs.declared.Refusal.{Refusal}
 use Rattle.search_answer.specs.Answers.{numbers, figures}
 use Rattle.shift_time.specs.Time.{time_of}
 use Rattle.reports.specs.declared.Totals.{Totals}
@@ -25,5 +25,5 @@ totals_with number value l = record {
 }
 
 -- the search's number and value, and the figures of the listing, all 0 after a refusal
-abbrev pub totals_of : Searched → Totals
+abbrev pub totals_of : Result Listing Refusal → Totals
 totals_of r = totals_with (numbers r).0 (numbers r).1 (figures r)

@@ -3,83 +3,94 @@
 #![tactic(auto)]
 
 ghost use Rattle.std.specs.Prelude.{◌≡◌};
+ghost use Rattle.refusal.specs.Refusals.{number, place};
 ghost use Rattle.task_check.specs.Answers.{answer};
 ghost use Rattle.writer.specs.Answers.{numbers as write_numbers};
 ghost use Rattle.walk.specs.Answers.{numbers as walk_numbers};
 ghost use Rattle.question.specs.Answers.{numbers as question_numbers};
-ghost use Rattle.search_answer.specs.Answers.{no_figures};
-ghost use Rattle.states_answer.specs.Answers.{no_figures as no_summary};
 ghost use Rattle.reports.specs.Reported.{reported, placed, check_numbers};
 ghost use Rattle.reports.specs.Totals.{totals_with, totals_of};
 ghost use Rattle.reports.specs.Tallies.{tally_with, tally_of};
 
-use question::Answered;
-use search_answer::{Listing, Searched};
+use refusal::Refusal;
+use search_answer::Listing;
 use shift_time::time_of;
-use states_answer::{Enumerated, Summary};
-use task_check::Checked;
-use walk::{Walked, fault_number};
-use writer::Written;
+use states_answer::Summary;
+use walk::Reached;
 
 // An answer as C gets it: the documents' number, and two values.
 #[repr(C)]
-#[derive(Clone, Copy)]
+#[derive(Clone, Copy, Default)]
 pub struct Report {
     pub number: u64,
     pub first: u64,
     pub second: u64,
 }
 
-// A number and two values.
-fn reply(number: u64, first: u64, second: u64) -> Report
-    ensures { reported result ≡ (number, first, second) }
-{
-    Report {
-        number,
-        first,
-        second,
-    }
-}
+// A refusal: its number and its place.
+impl From<Refusal> for Report {
+    ghost from_gives = { λ refusal r. reported r ≡ (number refusal, place refusal, 0) };
 
-// The file check: 0, or the refusal's number and value.
-pub fn of_check(told: Checked) -> Report
-    ensures { reported result ≡ check_numbers (answer told) }
-{
-    match told {
-        Checked::Accepted => reply(0, 0, 0),
-        Checked::Refused { number, place } => reply(number as u64, place as u64, 0),
-    }
-}
-
-// The writer: 0 and the length written, or the refusal's number and value.
-pub fn of_write(told: Written) -> Report
-    ensures { reported result ≡ write_numbers told }
-{
-    match told {
-        Written::Unread { number, place } => reply(number as u64, place as u64, 0),
-        Written::Short => reply(22, 0, 0),
-        Written::Whole { length } => reply(0, length as u64, 0),
-    }
-}
-
-// The walk of a plan: 0, cost and utility, or the refusal's number and value.
-pub fn of_walk(told: Walked) -> Report
-    ensures { reported result ≡ walk_numbers told }
-{
-    match told {
-        Walked::Unread { number, place } => reply(number as u64, place as u64, 0),
-        Walked::Odd => reply(16, 0, 0),
-        Walked::Stopped(stop) => {
-            let fault = stop.fault;
-            reply(fault_number(fault), stop.step as u64, 0)
+    // The number and the place.
+    fn from(refusal: Refusal) -> Report {
+        Report {
+            number: refusal.number() as u64,
+            first: refusal.place() as u64,
+            second: 0,
         }
-        Walked::Reached { cost, utility } => reply(0, cost as u64, utility as u64),
+    }
+}
+
+// The file check: 0, or the refusal.
+impl From<Result<(), Refusal>> for Report {
+    ghost from_gives = { λ told r. reported r ≡ check_numbers (answer told) };
+
+    // All 0, or the refusal's.
+    fn from(told: Result<(), Refusal>) -> Report {
+        match told {
+            Ok(()) => Report::default(),
+            Err(refusal) => Report::from(refusal),
+        }
+    }
+}
+
+// The writer: 0 and the length written, or the refusal.
+impl From<Result<usize, Refusal>> for Report {
+    ghost from_gives = { λ told r. reported r ≡ write_numbers told };
+
+    // The length, or the refusal's.
+    fn from(told: Result<usize, Refusal>) -> Report {
+        match told {
+            Ok(length) => Report {
+                number: 0,
+                first: length as u64,
+                second: 0,
+            },
+            Err(refusal) => Report::from(refusal),
+        }
+    }
+}
+
+// The walk of a plan: 0, cost and utility, or the refusal.
+impl From<Result<Reached, Refusal>> for Report {
+    ghost from_gives = { λ told r. reported r ≡ walk_numbers told };
+
+    // Cost and utility, or the refusal's.
+    fn from(told: Result<Reached, Refusal>) -> Report {
+        match told {
+            Ok(end) => Report {
+                number: 0,
+                first: end.cost as u64,
+                second: end.utility as u64,
+            },
+            Err(refusal) => Report::from(refusal),
+        }
     }
 }
 
 // What a question reports: a refusal's number and value, or 0 and 0, and 1 with the state's cost and steps where it is reached.
 #[repr(C)]
-#[derive(Clone, Copy)]
+#[derive(Clone, Copy, Default)]
 pub struct Place {
     pub number: u64,
     pub value: u64,
@@ -88,40 +99,29 @@ pub struct Place {
     pub steps: u64,
 }
 
-// A number and a value, without a place.
-fn no_place(number: u64, value: u64) -> Place
-    ensures { placed result ≡ (number, value, 0, 0, 0) }
-{
-    Place {
-        number,
-        value,
-        reached: 0,
-        cost: 0,
-        steps: 0,
-    }
-}
+// The question about one state: its place, or that it is not reached, or the refusal.
+impl From<Result<Option<question::Place>, Refusal>> for Place {
+    ghost from_gives = { λ told r. placed r ≡ question_numbers told };
 
-// A place.
-fn place_at(cost: u64, steps: u64) -> Place
-    ensures { placed result ≡ (0, 0, 1, cost, steps) }
-{
-    Place {
-        number: 0,
-        value: 0,
-        reached: 1,
-        cost,
-        steps,
-    }
-}
-
-// The question about one state: its place, or that it is not reached, or the refusal's number and value.
-pub fn of_question(told: Answered) -> Place
-    ensures { placed result ≡ question_numbers told }
-{
-    match told {
-        Answered::Refused { number, place } => no_place(number as u64, place as u64),
-        Answered::Reached { cost, steps } => place_at(cost as u64, steps as u64),
-        Answered::NotReached => no_place(0, 0),
+    // The place, or all 0, or the refusal's.
+    fn from(told: Result<Option<question::Place>, Refusal>) -> Place {
+        match told {
+            Ok(None) => Place::default(),
+            Ok(Some(found)) => Place {
+                number: 0,
+                value: 0,
+                reached: 1,
+                cost: found.cost as u64,
+                steps: found.steps as u64,
+            },
+            Err(refusal) => Place {
+                number: refusal.number() as u64,
+                value: refusal.place() as u64,
+                reached: 0,
+                cost: 0,
+                steps: 0,
+            },
+        }
     }
 }
 
@@ -166,31 +166,20 @@ fn totals_with(number: u64, value: u64, found: Listing) -> Totals
     }
 }
 
-// The figures after a refusal.
-fn no_figures() -> Listing
-    ensures { result ≡ no_figures }
-{
-    Listing {
-        utility: 0,
-        ceiling: 0,
-        cost: 0,
-        bound: 0,
-        nodes: 0,
-        entries: 0,
-        pairs: 0,
-        steps: 0,
-    }
-}
+// The search: 0, 0 and the figures of the listing, or the refusal and no figures.
+impl From<Result<Listing, Refusal>> for Totals {
+    ghost from_gives = { λ told r. r ≡ totals_of told };
 
-// The search: the refusal's number and value, or 0, 0 and the figures of the listing.
-pub fn of_search(told: Searched) -> Totals
-    ensures { result ≡ totals_of told }
-{
-    match told {
-        Searched::Refused { number, place } => {
-            totals_with(number as u64, place as u64, no_figures())
+    // The figures, or the refusal's and no figures.
+    fn from(told: Result<Listing, Refusal>) -> Totals {
+        match told {
+            Ok(found) => totals_with(0, 0, found),
+            Err(refusal) => totals_with(
+                refusal.number() as u64,
+                refusal.place() as u64,
+                Listing::default(),
+            ),
         }
-        Searched::Found(found) => totals_with(0, 0, found),
     }
 }
 
@@ -229,27 +218,19 @@ fn tally_with(number: u64, value: u64, summary: Summary) -> Tally
     }
 }
 
-// The figures after a refusal.
-fn no_summary() -> Summary
-    ensures { result ≡ no_summary }
-{
-    Summary {
-        utility: 0,
-        cost: 0,
-        bound: 0,
-        states: 0,
-        steps: 0,
-    }
-}
+// The engine that lists states: 0, 0 and the figures, or the refusal and no figures.
+impl From<Result<Summary, Refusal>> for Tally {
+    ghost from_gives = { λ told r. r ≡ tally_of told };
 
-// The engine that lists states: the refusal's number and value, or 0, 0 and the figures.
-pub fn of_states(told: Enumerated) -> Tally
-    ensures { result ≡ tally_of told }
-{
-    match told {
-        Enumerated::Refused { number, place } => {
-            tally_with(number as u64, place as u64, no_summary())
+    // The figures, or the refusal's and no figures.
+    fn from(told: Result<Summary, Refusal>) -> Tally {
+        match told {
+            Ok(found) => tally_with(0, 0, found),
+            Err(refusal) => tally_with(
+                refusal.number() as u64,
+                refusal.place() as u64,
+                Summary::default(),
+            ),
         }
-        Enumerated::Listed(found) => tally_with(0, 0, found),
     }
 }

@@ -10,8 +10,10 @@ use Rattle.planning.specs.Ceiling.{greatest_below, greatest_over, ceiling}
 use Rattle.planning.specs.Cases.{fact, P, Q}
 use Rattle.search_theory.proofs.Table.{p_0, p_1, p_2, q_3, q_4, q_5}
 use Rattle.utility.proofs.Cases.{entries_p, entries_q}
-use Rattle.search_answer.specs.declared.Searched.{Searched}
-use Rattle.search_answer.specs.declared.Searched.TheVariants.{Refused, Found}
+use Rattle.std.proofs.Common.{Result, Ok, Err}
+use Rattle.refusal.specs.declared.Refusal.{Refusal}
+use Rattle.refusal.specs.declared.Refusal.TheVariants.{NodesFull, PlanFull, PairsFull}
+use Rattle.search_answer.specs.declared.Listing.{Listing}
 use Rattle.search_answer.specs.Lent.{Lent, lent}
 use Rattle.search_answer.specs.Search.{listing_of, sets_of, made_of}
 use Rattle.search_answer.proofs.Refusals.{none_met, sets_14, sets_23}
@@ -21,8 +23,8 @@ abbrev lists : ℕ → ℕ → ℕ → Lent
 lists m n p =
     lent (replicate m 0) (replicate m 0) (replicate m 0) (replicate m 0) (replicate n 0) (replicate n 0) (replicate n 0) (replicate 6 0) (replicate 6 0) (replicate 6 0) [] [] [] (replicate p 0)
 
-abbrev figures : ℕ → ℕ → ℕ → ℕ → ℕ → ℕ → ℕ → ℕ → Searched
-figures u c g b n e m k = Found (record { utility = u; ceiling = c; cost = g; bound = b; nodes = n; entries = e; pairs = m; steps = k })
+abbrev figures : ℕ → ℕ → ℕ → ℕ → ℕ → ℕ → ℕ → ℕ → Result Listing Refusal
+figures u c g b n e m k = Ok (record { utility = u; ceiling = c; cost = g; bound = b; nodes = n; entries = e; pairs = m; steps = k })
 
 ceiling_p : (b : ℕ) → ceiling (P b) ≡ 3
 unfolding ◌and◌ pick value_of holds state_utility greatest_below greatest_over ceiling P fact
@@ -58,15 +60,15 @@ p_with_2 =
     let none = none_met (P 2) (lists 3 10 2) (omega (arith, p_2.nodes_are)) (omega (arith, p_2.pairs_are)) in
     rw (entries_p 2, none, p_2.nodes_are, p_2.plan_is, p_2.utility_is, p_2.cost_is, p_2.pairs_are, ceiling_p 2, bound_p 2)
 
-pub p_nodes_7 : made_of (P 1) (lists 2 7 1) ≡ Refused 14 0
+pub p_nodes_7 : made_of (P 1) (lists 2 7 1) ≡ Err NodesFull
 unfolding made_of pick
 p_nodes_7 = rw (entries_p 1) (sets_14 (P 1) (lists 2 7 1) (omega (arith, p_1.nodes_are)) (omega (arith, p_1.pairs_are)))
 
-pub p_pairs_1 : made_of (P 1) (lists 1 8 1) ≡ Refused 23 0
+pub p_pairs_1 : made_of (P 1) (lists 1 8 1) ≡ Err PairsFull
 unfolding made_of pick
 p_pairs_1 = rw (entries_p 1) (sets_23 (P 1) (lists 1 8 1) (omega (arith, p_1.nodes_are)) (omega (arith, p_1.pairs_are)))
 
-pub p_plan_0 : made_of (P 1) (lists 2 8 0) ≡ Refused 15 0
+pub p_plan_0 : made_of (P 1) (lists 2 8 0) ≡ Err PlanFull
 unfolding made_of sets_of pick
 p_plan_0 =
     let none = none_met (P 1) (lists 2 8 0) (omega (arith, p_1.nodes_are)) (omega (arith, p_1.pairs_are)) in

@@ -6,6 +6,7 @@ use mathlib.Core.Path.{◌≡◌, refl, sym, ap, subst, ◌∙◌}
 use mathlib.Core.Bool.{false}
 use mathlib.Core.List.{List, [], ◌∷◌, ◌++◌}
 use lib.ListN.{length, replicate}
+use Rattle.std.proofs.Common.{Result, Ok, Err}
 use Rattle.planning.specs.Connectives.{pick, ◌or◌}
 use Rattle.planning.specs.Model.{Task}
 use Rattle.planning.specs.Cases.{PlanRow}
@@ -18,17 +19,16 @@ use Rattle.search_theory.specs.Stop.{pair_task}
 use Rattle.search_theory.specs.Plan.{plan_of}
 use Rattle.search_theory.proofs.Table as sets
 use Rattle.task.specs.Cases.{header, operator, file_p, file_q, file_of}
-use Rattle.walk.specs.declared.Fault.TheVariants.{Operator, Precondition, Bound}
-use Rattle.walk.specs.declared.Walked.TheVariants.{Reached}
-use Rattle.walk.specs.Walk.{walk_of, stops_at}
+use Rattle.refusal.specs.declared.Fault.TheVariants.{Operator, Precondition, Bound}
+use Rattle.refusal.specs.declared.Refusal.{Refusal}
+use Rattle.refusal.specs.declared.Refusal.TheVariants.{NodesFull, PlanFull, PairsFull, StatesFull}
+use Rattle.walk.specs.Walk.{walk_of, stops_at, reaches}
 use Rattle.walk.specs.Answers.{numbers}
 use Rattle.walk.proofs.Cases.{checks, walks}
-use Rattle.search_answer.specs.declared.Searched.{Searched}
-use Rattle.search_answer.specs.declared.Searched.TheVariants.{Refused, Found}
+use Rattle.search_answer.specs.declared.Listing.{Listing}
 use Rattle.search_answer.specs.Lent.{Lent, lent}
 use Rattle.search_answer.specs.Search.{any_wrong, made_of, search_of}
 use Rattle.search_answer.proofs.Table as searches
-use Rattle.states_answer.specs.declared.Enumerated.TheVariants as enumerated
 use Rattle.states_answer.specs.Lent as states-lent
 use Rattle.states_answer.specs.States.{best_plan, listed_of, states_of}
 use Rattle.states_answer.proofs.Table as listings
@@ -41,8 +41,8 @@ lists m n e p =
     lent (replicate m 0) (replicate m 0) (replicate m 0) (replicate m 0) (replicate n 0) (replicate n 0) (replicate n 0) (replicate e 0) (replicate e 0) (replicate e 0) [] [] [] (replicate p 0)
 
 -- the figures of the listing, and the number of pairs
-abbrev pub figures : ℕ → ℕ → ℕ → ℕ → ℕ → ℕ → ℕ → ℕ → Searched
-figures u c g b n e m k = Found (record { utility = u; ceiling = c; cost = g; bound = b; nodes = n; entries = e; pairs = m; steps = k })
+abbrev pub figures : ℕ → ℕ → ℕ → ℕ → ℕ → ℕ → ℕ → ℕ → Result Listing Refusal
+figures u c g b n e m k = Ok (record { utility = u; ceiling = c; cost = g; bound = b; nodes = n; entries = e; pairs = m; steps = k })
 
 -- the listing's lines: the search answers with utility and ceiling, cost and bound, the two counts of nodes, and the number of pairs;
 -- minutes, units left over and units unused are those of cost and bound; the plan that it hands over is this one, and this is the best plan
@@ -59,7 +59,7 @@ state_lists n p = states-lent.lent (replicate n 0) (replicate n 0) (replicate n 
 -- the engine that lists states answers with utility, cost and bound, and the number of states; the time is that of cost and bound; the plan
 -- that it hands over is this one, and this is the best plan
 pub record Lists (f : List ℕ) (l : states-lent.Lent) (utility : ℕ) (cost : ℕ × ℕ) (time : ℕ × ℕ × ℕ) (states : ℕ) (plan : List ℕ) : Type 0 where
-  pub answers : states_of f l ≡ enumerated.Listed (record { utility = utility; cost = cost.0; bound = cost.1; states = states; steps = length plan })
+  pub answers : states_of f l ≡ Ok (record { utility = utility; cost = cost.0; bound = cost.1; states = states; steps = length plan })
   pub takes : time_of cost.0 cost.1 ≡ record { minutes = time.0; units = time.1; unused = time.2 }
   pub hands_over : best_plan (task_of f) ≡ plan
   pub best : Best (task_of f) plan
@@ -78,9 +78,9 @@ pub record Starred : Type 0 where
   -- P, b = 2: plan 1, 2; utility 3; cost 2
   pub p_2 : Finds (file_p 2) (lists 3 10 6 2) (3, 3) (2, 2) (0, 2, 0) (10, 6) 3 (1 ∷ 2 ∷ [])
   -- P, b = 1 with 7 node entries: refused 14
-  pub nodes_7 : search_of (file_p 1) (lists 2 7 6 1) ≡ Refused 14 0
+  pub nodes_7 : search_of (file_p 1) (lists 2 7 6 1) ≡ Err NodesFull
   -- P, b = 1 with a plan list of 0: refused 15
-  pub steps_0 : search_of (file_p 1) (lists 2 8 6 0) ≡ Refused 15 0
+  pub steps_0 : search_of (file_p 1) (lists 2 8 6 0) ≡ Err PlanFull
   -- walk 1, 2 with b = 2: cost 2, utility 3
   pub walk_1_2 : numbers (walk_of (file_p 2) (1 ∷ 0 ∷ 2 ∷ 0 ∷ [])) ≡ (0, 2, 3)
   -- walk 1, 2 with b = 1: 19 at step 1
@@ -97,7 +97,7 @@ pub record Starred : Type 0 where
 -- The others, and those of the engine that lists states.
 pub record Unstarred : Type 0 where
   -- P, b = 1 with one entry for pairs: refused 23
-  pub pairs_1 : search_of (file_p 1) (lists 1 8 6 1) ≡ Refused 23 0
+  pub pairs_1 : search_of (file_p 1) (lists 1 8 6 1) ≡ Err PairsFull
   -- walk 3: 17 at step 0
   pub walk_3 : numbers (walk_of (file_p 2) (3 ∷ 0 ∷ [])) ≡ (17, 0, 0)
   -- 16 values accepted, 17 refused 7
@@ -116,9 +116,9 @@ pub record Unstarred : Type 0 where
   pub states_q_4 : Lists (file_q 4) (state_lists 3 1) 7 (4, 4) (0, 4, 0) 3 (3 ∷ [])
   pub states_q_5 : Lists (file_q 5) (state_lists 3 1) 7 (4, 5) (0, 4, 1) 3 (3 ∷ [])
   -- P, b = 1 with two entries for states: refused 24, also with a plan list of 0; with three and a plan list of 0: refused 15
-  pub states_2 : states_of (file_p 1) (state_lists 2 1) ≡ enumerated.Refused 24 0
-  pub states_2_steps_0 : states_of (file_p 1) (state_lists 2 0) ≡ enumerated.Refused 24 0
-  pub states_steps_0 : states_of (file_p 1) (state_lists 3 0) ≡ enumerated.Refused 15 0
+  pub states_2 : states_of (file_p 1) (state_lists 2 1) ≡ Err StatesFull
+  pub states_2_steps_0 : states_of (file_p 1) (state_lists 2 0) ≡ Err StatesFull
+  pub states_steps_0 : states_of (file_p 1) (state_lists 3 0) ≡ Err PlanFull
 
 -- an accepted file and lists that pass 12 leave the later refusals
 due : {f : List ℕ} {t : Task} (l : Lent) → Holds f t → any_wrong l ≡ false → search_of f l ≡ made_of t l
@@ -148,7 +148,7 @@ due_states l h w = rw (h.sound, h.task, w)
 lists_states :
     {f : List ℕ} {t : Task} {l : states-lent.Lent} {utility : ℕ} {cost : ℕ × ℕ} {time : ℕ × ℕ × ℕ} {states top : ℕ} {plan : List ℕ}
     → Holds f t
-    → states_of f l ≡ enumerated.Listed (record { utility = utility; cost = cost.0; bound = cost.1; states = states; steps = length plan })
+    → states_of f l ≡ Ok (record { utility = utility; cost = cost.0; bound = cost.1; states = states; steps = length plan })
     → time_of cost.0 cost.1 ≡ record { minutes = time.0; units = time.1; unused = time.2 }
     → PlanRow t plan utility top cost.0
     → Lists f l utility cost time states plan
@@ -160,7 +160,7 @@ lists_states {plan = plan} h a m r = record {
   best = subst (λ x. Best x plan) (sym h.task) r.plan;
 }
 
-w12 : walk_of (file_p 2) (1 ∷ 0 ∷ 2 ∷ 0 ∷ []) ≡ Reached 2 3
+w12 : walk_of (file_p 2) (1 ∷ 0 ∷ 2 ∷ 0 ∷ []) ≡ reaches 2 3
 w12 = cc walks
 
 above : walk_of (file_p 1) (1 ∷ 0 ∷ 2 ∷ 0 ∷ []) ≡ stops_at 1 Bound

@@ -12,8 +12,10 @@ use Rattle.planning.specs.Scan.{tab}
 use Rattle.planning.specs.Cases.{fact, P, Q, PlanRow}
 use Rattle.planning.proofs.Cases.{plan_rows}
 use Rattle.states_within.specs.Within.{same_state, any_operator, reaches, before, joined, all_states, those, states_within}
-use Rattle.states_answer.specs.declared.Enumerated.{Enumerated}
-use Rattle.states_answer.specs.declared.Enumerated.TheVariants.{Refused, Listed}
+use Rattle.std.proofs.Common.{Result, Ok, Err}
+use Rattle.refusal.specs.declared.Refusal.{Refusal}
+use Rattle.refusal.specs.declared.Refusal.TheVariants.{PlanFull, StatesFull}
+use Rattle.states_answer.specs.declared.Summary.{Summary}
 use Rattle.states_answer.specs.Lent.{Lent, lent}
 use Rattle.states_answer.specs.States.{best_plan, state_count, summary_of, listed_of}
 
@@ -21,8 +23,8 @@ use Rattle.states_answer.specs.States.{best_plan, state_count, summary_of, liste
 abbrev lists : ℕ → ℕ → Lent
 lists n p = lent (replicate n 0) (replicate n 0) (replicate n 0) [] [] (replicate p 0)
 
-abbrev figures : ℕ → ℕ → ℕ → ℕ → ℕ → Enumerated
-figures u g b n k = Listed (record { utility = u; cost = g; bound = b; states = n; steps = k })
+abbrev figures : ℕ → ℕ → ℕ → ℕ → ℕ → Result Summary Refusal
+figures u g b n k = Ok (record { utility = u; cost = g; bound = b; states = n; steps = k })
 
 -- a task whose states within the bound are these, over any lists
 module _ (t : Task) (l : Lent) {ss : List (List ℕ)} (are : states_within t ≡ ss) where
@@ -37,7 +39,7 @@ module _ (t : Task) (l : Lent) {ss : List (List ℕ)} (are : states_within t ≡
   fits {p} r s k = rw (are, r.found, le-ltb (length l.states) (length ss) s, le-ltb (length l.plan) (length p) k, r.utility, r.costs)
 
   -- the states do not, whether the steps do or not
-  no_room : length l.states < length ss → listed_of t l ≡ Refused 24 0
+  no_room : length l.states < length ss → listed_of t l ≡ Err StatesFull
   unfolding listed_of state_count pick
   no_room s = rw (are, lt-ltb (length l.states) (length ss) s)
 
@@ -47,7 +49,7 @@ module _ (t : Task) (l : Lent) {ss : List (List ℕ)} (are : states_within t ≡
       → PlanRow t p u top c
       → length ss ≤ length l.states
       → length l.plan < length p
-      → listed_of t l ≡ Refused 15 0
+      → listed_of t l ≡ Err PlanFull
   unfolding listed_of state_count best_plan pick
   no_steps {p} r s k = rw (are, r.found, le-ltb (length l.states) (length ss) s, lt-ltb (length l.plan) (length p) k)
 
@@ -86,36 +88,36 @@ pub q_with_5 : listed_of (Q 5) (lists 3 1) ≡ figures 7 4 5 3 1
 unfolding Q
 q_with_5 = fits (Q 5) (lists 3 1) states_are.5 plan_rows.5 (omega arith) (omega arith)
 
-pub p_0_states_0 : listed_of (P 0) (lists 0 0) ≡ Refused 24 0
+pub p_0_states_0 : listed_of (P 0) (lists 0 0) ≡ Err StatesFull
 p_0_states_0 = no_room (P 0) (lists 0 0) states_are.0 (omega arith)
 
-pub p_1_states_2 : listed_of (P 1) (lists 2 1) ≡ Refused 24 0
+pub p_1_states_2 : listed_of (P 1) (lists 2 1) ≡ Err StatesFull
 p_1_states_2 = no_room (P 1) (lists 2 1) states_are.1 (omega arith)
 
-pub p_2_states_3 : listed_of (P 2) (lists 3 2) ≡ Refused 24 0
+pub p_2_states_3 : listed_of (P 2) (lists 3 2) ≡ Err StatesFull
 p_2_states_3 = no_room (P 2) (lists 3 2) states_are.2 (omega arith)
 
-pub q_3_states_1 : listed_of (Q 3) (lists 1 0) ≡ Refused 24 0
+pub q_3_states_1 : listed_of (Q 3) (lists 1 0) ≡ Err StatesFull
 q_3_states_1 = no_room (Q 3) (lists 1 0) states_are.3 (omega arith)
 
-pub q_4_states_2 : listed_of (Q 4) (lists 2 1) ≡ Refused 24 0
+pub q_4_states_2 : listed_of (Q 4) (lists 2 1) ≡ Err StatesFull
 q_4_states_2 = no_room (Q 4) (lists 2 1) states_are.4 (omega arith)
 
-pub q_5_states_2 : listed_of (Q 5) (lists 2 1) ≡ Refused 24 0
+pub q_5_states_2 : listed_of (Q 5) (lists 2 1) ≡ Err StatesFull
 q_5_states_2 = no_room (Q 5) (lists 2 1) states_are.5 (omega arith)
 
 -- 24 before 15
-pub p_1_both_short : listed_of (P 1) (lists 2 0) ≡ Refused 24 0
+pub p_1_both_short : listed_of (P 1) (lists 2 0) ≡ Err StatesFull
 p_1_both_short = no_room (P 1) (lists 2 0) states_are.1 (omega arith)
 
-pub p_1_steps_0 : listed_of (P 1) (lists 3 0) ≡ Refused 15 0
+pub p_1_steps_0 : listed_of (P 1) (lists 3 0) ≡ Err PlanFull
 p_1_steps_0 = no_steps (P 1) (lists 3 0) states_are.1 plan_rows.1 (omega arith) (omega arith)
 
-pub p_2_steps_1 : listed_of (P 2) (lists 4 1) ≡ Refused 15 0
+pub p_2_steps_1 : listed_of (P 2) (lists 4 1) ≡ Err PlanFull
 p_2_steps_1 = no_steps (P 2) (lists 4 1) states_are.2 plan_rows.2 (omega arith) (omega arith)
 
-pub q_4_steps_0 : listed_of (Q 4) (lists 3 0) ≡ Refused 15 0
+pub q_4_steps_0 : listed_of (Q 4) (lists 3 0) ≡ Err PlanFull
 q_4_steps_0 = no_steps (Q 4) (lists 3 0) states_are.4 plan_rows.4 (omega arith) (omega arith)
 
-pub q_5_steps_0 : listed_of (Q 5) (lists 3 0) ≡ Refused 15 0
+pub q_5_steps_0 : listed_of (Q 5) (lists 3 0) ≡ Err PlanFull
 q_5_steps_0 = no_steps (Q 5) (lists 3 0) states_are.5 plan_rows.5 (omega arith) (omega arith)
