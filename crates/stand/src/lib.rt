@@ -1,12 +1,9 @@
-// The stand's task files P and Q, and the parts to make others from, written to lent bytes; and a refusal's line.
+// The stand's task files P and Q, and the parts to make others from, written to lent bytes.
 #![tactic(auto)]
 
 ghost use Rattle.std.specs.Prelude.{◌≡◌, ◌+◌, ◌<◌, ◌≤◌, length, set, replicate};
 ghost use Rattle.task.specs.Cases.{header, file_p, file_q, file_plain};
 ghost use Rattle.stand.specs.Bytes.{overlay, put16, put_sizes};
-
-use std::io;
-use std::io::Write;
 
 // Writes a byte, if there is such a place.
 pub fn set8(file: &mut [u8], at: usize, x: u8)
@@ -18,12 +15,12 @@ pub fn set8(file: &mut [u8], at: usize, x: u8)
 }
 
 // Writes a number of two bytes, low byte first.
+#[tactic(auto, unfolding(crate::specs::Bytes::overlay))]
 pub fn set16(file: &mut [u8], at: usize, x: u16)
     requires { at < 65536 }
     ensures { file.new ≡ put16 file.old at x }
 {
-    set8(file, at, (x % 256) as u8);
-    set8(file, at + 1, (x / 256) as u8);
+    copy(file, at, &x.to_le_bytes());
 }
 
 // Writes bytes from a place on.
@@ -31,10 +28,8 @@ pub fn copy(file: &mut [u8], at: usize, bytes: &[u8])
     requires { at < 65536 }
     ensures { file.new ≡ overlay file.old at bytes.now }
 {
-    let mut i = 0;
-    while i < bytes.len() {
-        set8(file, at + i, bytes[i]);
-        i += 1;
+    for (i, x) in bytes.iter().enumerate() {
+        set8(file, at + i, *x);
     }
 }
 
@@ -43,10 +38,8 @@ pub fn variables(file: &mut [u8], n: usize, d: u8)
     requires { n ≤ 64 }
     ensures { file.new ≡ put_sizes file.old d n 0 }
 {
-    let mut v = 0;
-    while v < n {
+    for v in 0..n {
         set8(file, 28 + 2 * v, d);
-        v += 1;
     }
 }
 
@@ -122,9 +115,4 @@ pub fn plain(file: &mut [u8])
     operator(file, 32, b"\x02\x00\x02\x01\x00\x01\x01\x00", b"\x01\x03");
     operator(file, 68, b"\x01\x00\x00\x01", b"\x00\x00");
     copy(file, 104, b"\x07\x00\x02\x00\x00\x01\x01\x03");
-}
-
-// Writes a refusal's number and value, and ends the line.
-pub fn refused<W: Write>(out: &mut W, number: u64, value: u64) -> io::Result<()> {
-    writeln!(out, "refused {number} {value}")
 }

@@ -1,17 +1,16 @@
 // Writes the answers, one to a line behind the case's name.
-use stand::refused;
 use std::io;
 use std::io::Write;
-use task_check::{Checked, check};
-use walk::{Walked, fault_number, walk};
+use task_check::check;
+use walk::walk;
 
 // The file check's answer.
 pub fn checked<W: Write>(out: &mut W, name: &[u8], file: &[u8]) -> io::Result<()> {
     out.write_all(name)?;
     out.write_all(b": ")?;
     match check(file) {
-        Checked::Accepted => writeln!(out, "accepted"),
-        Checked::Refused { number, place } => refused(out, number as u64, place as u64),
+        Ok(()) => writeln!(out, "accepted"),
+        Err(refusal) => writeln!(out, "{refusal}"),
     }
 }
 
@@ -28,19 +27,9 @@ pub fn walked<W: Write>(out: &mut W, name: &[u8], file: &[u8], plan: &[u8]) -> i
     out.write_all(name)?;
     out.write_all(b": ")?;
     match walk(file, plan) {
-        Walked::Unread { number, place } => refused(out, number as u64, place as u64),
-        Walked::Odd => refused(out, 16, 0),
-        Walked::Stopped(stop) => {
-            let fault = stop.fault;
-            refused(out, fault_number(fault), stop.step as u64)
-        }
-        Walked::Reached { cost, utility } => writeln!(out, "cost {cost} utility {utility}"),
+        Ok(end) => writeln!(out, "cost {} utility {}", end.cost, end.utility),
+        Err(refusal) => writeln!(out, "{refusal}"),
     }
-}
-
-// A byte, behind a space.
-fn byte<W: Write>(out: &mut W, x: u8) -> io::Result<()> {
-    write!(out, " {x}")
 }
 
 // The bytes of a part of a file.
@@ -48,7 +37,7 @@ pub fn part<W: Write>(out: &mut W, name: &[u8], bytes: &[u8]) -> io::Result<()> 
     out.write_all(name)?;
     out.write_all(b":")?;
     for x in bytes {
-        byte(out, *x)?;
+        write!(out, " {x}")?;
     }
     writeln!(out)
 }

@@ -16,12 +16,12 @@ use Rattle.planning.specs.Model.{Task, state_utility, operator_at, can_apply, ne
 use Rattle.planning.proofs.Guards.{pick_yes, and_both}
 use Rattle.task.specs.Decode.{task_of}
 use Rattle.task.specs.Check.{accepted}
-use Rattle.walk.specs.declared.Fault.{Fault}
-use Rattle.walk.specs.declared.Fault.TheVariants.{Operator, Precondition, Bound}
-use Rattle.walk.specs.declared.Stop.{Stop}
-use Rattle.walk.specs.declared.Walked.{Walked}
-use Rattle.walk.specs.declared.Walked.TheVariants.{Reached}
-use Rattle.walk.specs.Walk.{stops_at, walk_from, steps, walk_of}
+use Rattle.refusal.specs.declared.Fault.{Fault}
+use Rattle.refusal.specs.declared.Fault.TheVariants.{Operator, Precondition, Bound}
+use Rattle.std.specs.Prelude.{Result}
+use Rattle.refusal.specs.declared.Refusal.{Refusal}
+use Rattle.walk.specs.declared.Reached.{Reached}
+use Rattle.walk.specs.Walk.{stops_at, reaches, walk_from, steps, walk_of}
 use Rattle.walk.specs.Meaning.{fault_of, Succeeds, Fails}
 use Rattle.walk.proofs.Steps.{walk_even}
 
@@ -40,7 +40,7 @@ none_fails true true false e = let z : ◌≡◌ {A = ℕ} 0 1 = cc in absurd (o
 none_fails true false c e = let z : ◌≡◌ {A = ℕ} 0 1 = cc in absurd (omega arith)
 none_fails false b c e = let z : ◌≡◌ {A = ℕ} 0 1 = cc in absurd (omega arith)
 
-one_fails : (a b c : Bool) (W : Walked) (i : ℕ) (x : Fault) → first_of a b c ≡ some x → pick a (pick b (pick c W (stops_at i Bound)) (stops_at i Precondition)) (stops_at i Operator) ≡ stops_at i x
+one_fails : (a b c : Bool) (W : Result Reached Refusal) (i : ℕ) (x : Fault) → first_of a b c ≡ some x → pick a (pick b (pick c W (stops_at i Bound)) (stops_at i Precondition)) (stops_at i Operator) ≡ stops_at i x
 unfolding pick
 one_fails true true true W i x h = let z : ◌≡◌ {A = ℕ} 0 1 = cc in absurd (omega arith)
 one_fails true true false W i x h = let e : Bound ≡ x = cc in ap (stops_at i) e
@@ -49,9 +49,7 @@ one_fails false b c W i x h = let e : Operator ≡ x = cc in ap (stops_at i) e
 
 -- walks that stop alike stop at one step with one fault
 same_stop : (i j : ℕ) (x y : Fault) → stops_at i x ≡ stops_at j y → (i ≡ j) × (x ≡ y)
-same_stop i j x y e =
-    let q : ◌≡◌ {A = Stop} (record { step = i; fault = x }) (record { step = j; fault = y }) = cc in
-    (ap (λ (s : Stop). s.step) q, ap (λ (s : Stop). s.fault) q)
+same_stop i j x y e = (cc, cc)
 
 module _ (t : Task) where
   -- ---- from the state s, after the cost c
@@ -91,7 +89,7 @@ module _ (t : Task) where
       (both_and _ _ b.0 b.1, leb-true _ _ b.2)
 
   -- ---- a whole walk
-  succeeds : (p : List ℕ) (i : ℕ) (s : List ℕ) (c : ℕ) → SucceedsFrom s c p → walk_from t i s c p ≡ Reached (c + cost t p) (state_utility t.terms (end t s p))
+  succeeds : (p : List ℕ) (i : ℕ) (s : List ℕ) (c : ℕ) → SucceedsFrom s c p → walk_from t i s c p ≡ reaches (c + cost t p) (state_utility t.terms (end t s p))
   unfolding walk_from applicable cost end
   succeeds [] i s c h = rw add-zero
   succeeds (o ∷ p) i s c h =
@@ -100,7 +98,7 @@ module _ (t : Task) where
       let e : (c + price o) + cost t p ≡ c + (price o + cost t p) = omega arith in
       sym (passes i s c o p b.0 (omega (arith, h.within)))
       ∙ succeeds p (suc i) (next t o s) (c + price o) (record { applies = b.1; within = w })
-      ∙ ap (λ (x : ℕ). Reached x (state_utility t.terms (end t (next t o s) p))) e
+      ∙ ap (λ (x : ℕ). reaches x (state_utility t.terms (end t (next t o s) p))) e
 
   fails : (p : List ℕ) (i : ℕ) (s : List ℕ) (c j : ℕ) (x : Fault) → FailsFrom s c p j x → walk_from t i s c p ≡ stops_at (i + j) x
   unfolding applicable cost end
@@ -173,31 +171,32 @@ module _ (f plan : List ℕ) (a : accepted f ≡ true) (even : length plan % 2 �
   known : SucceedsFrom T T.start 0 (steps plan) ⊎ SomeFault T T.start 0 (steps plan)
   known = outcome T (steps plan) T.start 0 (omega arith)
 
-  good : SucceedsFrom T T.start 0 (steps plan) → walk_of f plan ≡ Reached (cost T (steps plan)) (utility T (steps plan))
+  good : SucceedsFrom T T.start 0 (steps plan) → walk_of f plan ≡ reaches (cost T (steps plan)) (utility T (steps plan))
   unfolding utility
-  good r = sym whole ∙ succeeds T (steps plan) 0 T.start 0 r ∙ ap (λ (x : ℕ). Reached x (utility T (steps plan))) (zero-add (cost T (steps plan)))
+  good r = sym whole ∙ succeeds T (steps plan) 0 T.start 0 r ∙ ap (λ (x : ℕ). reaches x (utility T (steps plan))) (zero-add (cost T (steps plan)))
 
   bad : (j : ℕ) (x : Fault) → FailsFrom T T.start 0 (steps plan) j x → walk_of f plan ≡ stops_at j x
   bad j x r = sym whole ∙ fails T (steps plan) 0 T.start 0 j x r ∙ ap (λ (m : ℕ). stops_at m x) (zero-add j)
 
-  pub walk_succeeds : (c u : ℕ) → (walk_of f plan ≡ Reached c u) ↔ Succeeds T (steps plan) c u
+  pub walk_succeeds : (c u : ℕ) → (walk_of f plan ≡ reaches c u) ↔ Succeeds T (steps plan) c u
   walk_succeeds c u = (to known, from)
     where
-      to : SucceedsFrom T T.start 0 (steps plan) ⊎ SomeFault T T.start 0 (steps plan) → walk_of f plan ≡ Reached c u → Succeeds T (steps plan) c u
+      to : SucceedsFrom T T.start 0 (steps plan) ⊎ SomeFault T T.start 0 (steps plan) → walk_of f plan ≡ reaches c u → Succeeds T (steps plan) c u
       to (inl r) e =
           let g = good r in
+          let same : ◌≡◌ {A = Reached} (record { cost = c; utility = u }) (record { cost = cost T (steps plan); utility = utility T (steps plan) }) = cc in
           record {
             applies = r.applies;
             within = omega (arith, r.within);
-            costs = cc;
-            utility_is = cc;
+            costs = ap (λ (x : Reached). x.cost) same;
+            utility_is = ap (λ (x : Reached). x.utility) same;
           }
       to (inr r) e =
           let g = bad r.step r.fault r.fails in
           let z : ◌≡◌ {A = ℕ} 0 1 = cc in
           absurd (omega arith)
 
-      from : Succeeds T (steps plan) c u → walk_of f plan ≡ Reached c u
+      from : Succeeds T (steps plan) c u → walk_of f plan ≡ reaches c u
       from s = good (record { applies = s.applies; within = omega (arith, s.within) }) ∙ rw (s.costs, s.utility_is)
 
   pub walk_fails : (i : ℕ) (x : Fault) → (walk_of f plan ≡ stops_at i x) ↔ Fails T (steps plan) i x

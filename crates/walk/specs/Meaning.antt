@@ -3,8 +3,8 @@ use Rattle.std.specs.Prelude.{ℕ, ◌+◌, ◌≤◌, ◌<◌, ◌≡◌, true,
 use Rattle.std.proofs.Math.Option.{Option, none, some}
 use Rattle.planning.specs.Connectives.{pick}
 use Rattle.planning.specs.Model.{Task, holds, operator_at, applicable, end, cost, utility}
-use Rattle.walk.specs.declared.Fault.{Fault}
-use Rattle.walk.specs.declared.Fault.TheVariants.{Operator, Precondition, Bound}
+use Rattle.refusal.specs.declared.Fault.{Fault}
+use Rattle.refusal.specs.declared.Fault.TheVariants.{Operator, Precondition, Bound}
 
 -- the fault of operator number o in the state s after the cost c, if it has one: no such operator, a precondition unmet, the cost so far
 -- above the bound
