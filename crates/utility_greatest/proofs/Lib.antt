@@ -1,4 +1,4 @@
 -- Laws that belong to no one function.
 pub mod Growing
 pub mod Looking
-pub mod Numbers
+pub mod Walking

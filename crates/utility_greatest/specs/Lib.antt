@@ -1,2 +1,2 @@
 pub mod Greatest
-pub mod Looking
+pub mod Walking

@@ -1,150 +1,132 @@
 // The greatest utility of the states in a set. No node is made.
 #![tactic(auto)]
 
-ghost use Rattle.std.specs.Prelude.{◌≡◌, ◌+◌, ◌<◌, max, length};
-ghost use Rattle.diagrams.specs.Store.{Store};
-ghost use Rattle.diagrams.specs.Memo.{Memo, Stamped, size_of};
-ghost use Rattle.utility.specs.Reading.{nodes};
+ghost use Rattle.std.specs.Prelude.{◌≡◌, ◌+◌, ◌<◌, length};
+ghost use Rattle.diagrams.specs.Store.{Store, view_table};
+ghost use Rattle.diagrams.specs.Memo.{Memo, Stamped};
+ghost use Rattle.diagram_loops.specs.Stacks.{waiting};
 ghost use Rattle.utility_greatest.specs.Greatest.{MostOf, Most, Greatest};
-ghost use Rattle.utility_greatest.specs.Looking.{Looks};
+ghost use Rattle.utility_greatest.specs.Walking.{Narrow, Ready, Looked, Sinking, Reaches, Rising, Turned};
 
-use diagram_loops::{DEEPEST, Look, NONE, awaiting, nothing, shown};
+use diagram_loops::stack::Stack;
+use diagram_loops::{Look, Turn, awaiting};
 use diagram_memo::{InUse, keep, recall, slots};
+use diagrams::NodeView;
 
-// The larger of two numbers.
-fn larger(x: u32, y: u32) -> u32
-    ensures { result ≡ max x y }
-{
-    if x < y {
-        return y;
-    }
-    x
+// A walk through a set and the utility diagram, and the stamp and the slots by which the memo has its numbers.
+#[derive(Clone, Copy)]
+struct Walk<'a> {
+    set: NodeView<'a>,
+    utility: NodeView<'a>,
+    stamp: u32,
+    slots: InUse,
 }
 
-// What the names, the memo and the lists show of the greatest value: the number stands where an operation has a name.
-fn look(
-    bit: &[u32],
-    low: &[u32],
-    high: &[u32],
-    memo: &[u32],
-    ubit: &[u32],
-    ulow: &[u32],
-    uhigh: &[u32],
-    z: InUse,
-    stamp: u32,
-    x: u32,
-    y: u32,
-) -> Look
-    requires x_in_bounds { (x < length bit.now + 2) × (y < length ubit.now + 2) × (z.n ≡ size_of memo.now) }
-    requires low_len { (length low.now ≡ length bit.now) × (length high.now ≡ length bit.now) × (length ulow.now ≡ length ubit.now) × (length uhigh.now ≡ length ubit.now) }
-    ensures { Looks bit.now low.now high.now memo.now ubit.now ulow.now uhigh.now stamp x y result }
-{
-    if x == 0 {
-        return shown(0);
+impl Walk<'_> {
+    // What the names, the memo and the lists show of the greatest value and 1, 0 for the empty set: a number, as the memo has them.
+    fn look(&self, memo: &[u32], x: u32, y: u32) -> Look
+        requires ready { Ready self.now memo.now }
+        requires names { (x < self.now.set.count + 2) × (y < self.now.utility.count + 2) }
+        ensures { Looked self.now x y result }
+    {
+        if x == 0 {
+            return Look::Known(0);
+        }
+        if let Some(value) = utility::end(self.utility, y) {
+            return Look::Known(value + 1);
+        }
+        if let Some(number) = recall(memo, self.slots, self.stamp, x, y) {
+            return Look::Known(number);
+        }
+        awaiting(x, y, utility::part(self.set, self.utility, x, y))
     }
-    let e = utility::end(ubit, y);
-    if e.known {
-        return shown(e.value + 1);
+
+    // Down the low sides, until a number is known.
+    fn descend(&self, memo: &[u32], stack: &mut Stack, a: u32, u: u32) -> u32
+        requires ready { Ready self.now memo.now }
+        requires sinks { Sinking self.now (waiting stack.old) a u }
+        requires size { length stack.old.frames ≡ 64 }
+        ensures reaches { Reaches self.now (waiting stack.old) (waiting stack.new) a u result }
+        ensures size { length stack.new.frames ≡ 64 }
+    {
+        let mut x = a;
+        let mut y = u;
+        loop {
+            match self.look(memo, x, y) {
+                Look::Known(number) => return number,
+                Look::Parted(frame) => {
+                    stack.push(frame);
+                    x = frame.part.al;
+                    y = frame.part.bl;
+                }
+            }
+        }
     }
-    let m = recall(memo, z, stamp, x, y);
-    if m.known {
-        return shown(m.name);
+
+    // Up, as long as it is the high side's number.
+    fn ascend(&self, memo: &mut [u32], stack: &mut Stack, reached: u32) -> Turn
+        requires ready { Ready self.now memo.old }
+        requires rises { Rising self.now (waiting stack.old) reached }
+        requires size { length stack.old.frames ≡ 64 }
+        ensures ready { Ready self.now memo.new }
+        ensures turned { Turned self.now (waiting stack.old) (waiting stack.new) reached result }
+        ensures size { length stack.new.frames ≡ 64 }
+    {
+        let mut number = reached;
+        while let Some(frame) = stack.last() {
+            let Some(low) = frame.low() else {
+                stack.turn(number);
+                return Turn::High(frame.part.ah, frame.part.bh);
+            };
+            stack.pop();
+            number = low.max(number);
+            keep(memo, self.slots, self.stamp, frame.a, frame.b, number);
+        }
+        Turn::Done(number)
     }
-    let p = utility::part(bit, low, high, ubit, ulow, uhigh, x, y);
-    awaiting(x, y, p)
 }
 
-// The greatest value, and 1, that the utility diagram named u has within the set named a; 0 for the empty set. The counts are those of
-// the entries in use.
-pub fn most(
-    bit: &[u32],
-    low: &[u32],
-    high: &[u32],
-    ubit: &[u32],
-    ulow: &[u32],
-    uhigh: &[u32],
-    memo: &mut [u32],
-    count: usize,
-    ucount: usize,
-    stamp: u32,
-    a: u32,
-    u: u32,
-) -> u32
-    requires store { Store (nodes bit.now low.now high.now count) × Store (nodes ubit.now ulow.now uhigh.now ucount) }
-    requires a_bound { (a < count + 2) × (u < ucount + 2) }
-    requires fact { let s = nodes bit.now low.now high.now count in
-        let x = nodes ubit.now ulow.now uhigh.now ucount in
-        Stamped s memo.old stamp (MostOf s x) }
-    ensures { let s = nodes bit.now low.now high.now count in
-        let x = nodes ubit.now ulow.now uhigh.now ucount in
-        Most s x memo.new stamp a u result }
+// A list's numbers have 32 bits. Nothing is done: the lists of a struct do not tell it of themselves.
+fn narrow(list: &[u32])
+    ensures { Narrow list.now }
+{}
+
+// The greatest value, and 1, that the utility diagram named u has within the set named a; 0 for the empty set.
+pub fn most(set: NodeView, utility: NodeView, memo: &mut [u32], stamp: u32, a: u32, u: u32) -> u32
+    requires store { Store (view_table set) × Store (view_table utility) }
+    requires a_bound { (a < set.count + 2) × (u < utility.count + 2) }
+    requires fact { Stamped (view_table set) memo.old stamp (MostOf (view_table set) (view_table utility)) }
+    ensures { Most (view_table set.entry) (view_table utility.entry) memo.new stamp a u result }
 {
-    let none = nothing();
-    let mut stack = [none; DEEPEST];
-    let mut depth: usize = 0;
-    let z = slots(memo);
+    let walk = Walk {
+        set,
+        utility,
+        stamp,
+        slots: slots(memo),
+    };
+    narrow(utility.bit);
+    let mut stack = Stack::new();
     let mut x = a;
     let mut y = u;
     loop {
-        // Down the low sides, until a number is known.
-        let mut r: u32 = 0;
-        loop {
-            let e = look(bit, low, high, memo, ubit, ulow, uhigh, z, stamp, x, y);
-            if e.known {
-                r = e.name;
-                break;
+        let reached = walk.descend(memo, &mut stack, x, y);
+        match walk.ascend(memo, &mut stack, reached) {
+            Turn::Done(number) => return number,
+            Turn::High(p, q) => {
+                x = p;
+                y = q;
             }
-            let w = e.wait;
-            let p = w.part;
-            stack[depth] = w;
-            depth += 1;
-            x = p.al;
-            y = p.bl;
-        }
-        // Up, as long as it is the high side's number.
-        loop {
-            if depth == 0 {
-                return r;
-            }
-            let at = depth - 1;
-            let w = stack[at];
-            let p = w.part;
-            if w.lo == NONE {
-                stack[at].lo = r;
-                x = p.ah;
-                y = p.bh;
-                break;
-            }
-            r = larger(w.lo, r);
-            keep(memo, z, stamp, w.a, w.b, r);
-            depth = at;
         }
     }
 }
 
 // The same under a fresh stamp.
-pub fn greatest(
-    bit: &[u32],
-    low: &[u32],
-    high: &[u32],
-    ubit: &[u32],
-    ulow: &[u32],
-    uhigh: &[u32],
-    memo: &mut [u32],
-    count: usize,
-    ucount: usize,
-    a: u32,
-    u: u32,
-) -> u32
-    requires store { Store (nodes bit.now low.now high.now count) × Store (nodes ubit.now ulow.now uhigh.now ucount) }
-    requires a_bound { (a < count + 2) × (u < ucount + 2) }
-    requires memo { Memo (nodes bit.now low.now high.now count) memo.old }
-    ensures { let s = nodes bit.now low.now high.now count in
-        let x = nodes ubit.now ulow.now uhigh.now ucount in
-        Greatest s x memo.new a u result }
+pub fn greatest(set: NodeView, utility: NodeView, memo: &mut [u32], a: u32, u: u32) -> u32
+    requires store { Store (view_table set) × Store (view_table utility) }
+    requires a_bound { (a < set.count + 2) × (u < utility.count + 2) }
+    requires memo { Memo (view_table set) memo.old }
+    ensures { Greatest (view_table set.entry) (view_table utility.entry) memo.new a u result }
 {
     let stamp = diagram_stamps::stamp(memo);
-    most(
-        bit, low, high, ubit, ulow, uhigh, memo, count, ucount, stamp, a, u,
-    )
+    most(set, utility, memo, stamp, a, u)
 }
