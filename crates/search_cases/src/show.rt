@@ -1,68 +1,45 @@
 // Writes a search's answer on a line behind the case's name.
-use search_answer::{Listing, Searched};
-use shift_time::{Time, time_of};
-use stand::refused;
+use refusal::Refusal;
+use search_answer::Listing;
+use shift_time::time_of;
 use std::io;
 use std::io::Write;
 
-// A word and two numbers.
-fn pair<W: Write>(out: &mut W, word: &[u8], a: usize, between: &[u8], b: usize) -> io::Result<()> {
-    out.write_all(word)?;
-    write!(out, "{a}")?;
-    out.write_all(between)?;
-    write!(out, "{b}")
-}
-
-// A plan's time.
-fn time<W: Write>(out: &mut W, taken: Time) -> io::Result<()> {
-    pair(out, b" time ", taken.minutes, b" ", taken.units)?;
-    let unused = taken.unused;
-    write!(out, " {unused}")
-}
-
 // The figures of a listing.
 fn figures<W: Write>(out: &mut W, found: Listing) -> io::Result<()> {
-    pair(out, b"utility ", found.utility, b" of ", found.ceiling)?;
-    pair(out, b" cost ", found.cost, b" of ", found.bound)?;
-    time(out, time_of(found.cost, found.bound))?;
-    pair(out, b" nodes ", found.nodes, b" ", found.entries)?;
-    let pairs = found.pairs;
-    write!(out, " pairs {pairs}")
+    let time = time_of(found.cost, found.bound);
+    write!(out, "utility {} of {}", found.utility, found.ceiling)?;
+    write!(out, " cost {} of {}", found.cost, found.bound)?;
+    write!(out, " time {} {} {}", time.minutes, time.units, time.unused)?;
+    write!(out, " nodes {} {}", found.nodes, found.entries)?;
+    write!(out, " pairs {}", found.pairs)
 }
 
-// A step's operator.
-fn step<W: Write>(out: &mut W, operator: u16) -> io::Result<()> {
-    write!(out, " {operator}")
-}
-
-// The first n steps of a plan.
+// The first n steps of a plan, to the line's end.
 fn steps<W: Write>(out: &mut W, plan: &[u16], n: usize) -> io::Result<()> {
-    for operator in plan.iter().take(n) {
-        step(out, *operator)?;
+    if n == 0 {
+        return writeln!(out, " no steps");
     }
-    Ok(())
+    write!(out, " plan")?;
+    for operator in plan.iter().take(n) {
+        write!(out, " {operator}")?;
+    }
+    writeln!(out)
 }
 
 // The search's answer, and the plan that it left.
 pub fn searched<W: Write>(
     out: &mut W,
-    name: &[u8],
+    name: &str,
     plan: &[u16],
-    answer: Searched,
+    answer: Result<Listing, Refusal>,
 ) -> io::Result<()> {
-    out.write_all(name)?;
-    out.write_all(b": ")?;
+    write!(out, "{name}: ")?;
     match answer {
-        Searched::Refused { number, place } => refused(out, number as u64, place as u64),
-        Searched::Found(found) => {
-            let n = found.steps;
+        Ok(found) => {
             figures(out, found)?;
-            if n == 0 {
-                return writeln!(out, " no steps");
-            }
-            write!(out, " plan")?;
-            steps(out, plan, n)?;
-            writeln!(out)
+            steps(out, plan, found.steps)
         }
+        Err(refusal) => writeln!(out, "{refusal}"),
     }
 }
