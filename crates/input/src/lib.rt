@@ -12,6 +12,7 @@ pub fn read_full<R: Read>(input: &mut R, bytes: &mut [u8]) -> usize
     ensures read { Consumes (R.remaining input.old) (R.remaining input.new) (take result bytes.new) }
 {
     let mut done = 0;
+    // A read gives as many bytes as it likes, so that no range counts them.
     while done < bytes.len() {
         match input.read(&mut bytes[done..]) {
             Ok(0) | Err(_) => return done,
