@@ -5,10 +5,8 @@
 #![tactic(auto)]
 
 ghost use Rattle.std.specs.Prelude.{◌≡◌, true, ◌≤◌, ◌<◌, length, IfOk};
-ghost use Rattle.diagrams.specs.Store.{SameLists, Store, table_of, view_table};
+ghost use Rattle.diagrams.specs.Store.{SameLists, table_of};
 ghost use Rattle.task.specs.Check.{accepted};
-ghost use Rattle.task.specs.Decode.{task_of};
-ghost use Rattle.utility.specs.Valued.{Valued};
 ghost use Rattle.utility_cases.specs.Ready.{EvenLists, Named, Ready};
 
 use diagram_apply::{difference, union};
