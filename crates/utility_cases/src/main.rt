@@ -4,23 +4,24 @@
 // states that have it; a sum over the states with permitted values, and the ceiling.
 #![tactic(auto)]
 
-ghost use Rattle.std.specs.Prelude.{◌≡◌, true, ◌+◌, ◌≤◌, ◌<◌, length};
-ghost use Rattle.diagrams.specs.Tree.{meet_t};
-ghost use Rattle.diagrams.specs.Store.{table, tree, Store};
-ghost use Rattle.diagrams.specs.Memo.{MakesWith};
+ghost use Rattle.std.specs.Prelude.{◌≡◌, true, ◌≤◌, ◌<◌, length, IfOk};
+ghost use Rattle.diagrams.specs.Store.{SameLists, table_of};
 ghost use Rattle.task.specs.Check.{accepted};
-ghost use Rattle.task.specs.Decode.{task_of};
-ghost use Rattle.utility.specs.Reading.{nodes};
-ghost use Rattle.utility.specs.Valued.{Valued};
-ghost use Rattle.utility_cases.specs.Ready.{Ready, Goes};
+ghost use Rattle.utility_cases.specs.Ready.{EvenLists, Named, Ready};
 
 use diagram_apply::{difference, union};
-use diagrams::{Made, done};
+use diagram_cubes::demand;
+use diagrams::{Full, NodeView, Nodes};
 use input::read_full;
 use std::io;
 use std::io::Write;
 use task::bytes::le32;
 use task::limits::MOST_BITS;
+use utility::Utility;
+use utility_build::build;
+use utility_ceiling::{ceiling, permitted_states};
+use utility_greatest::greatest;
+use utility_select::select;
 
 // The entries lent.
 const LENT: usize = 512;
@@ -42,73 +43,52 @@ const MOST_BYTES: usize = 4096;
 // The bytes of a header.
 const HEADER: usize = 28;
 
+// The bits of a state, and those of them by which every list of bits is gone through.
+const STATE_BITS: u32 = 64;
+
+const SHOWN_BITS: usize = 12;
+
 // A number, after a space.
 fn show<W: Write>(out: &mut W, x: u64) -> io::Result<()> {
     write!(out, " {x}")
 }
 
-// A name as a place in a list.
-fn wide(x: u32) -> usize
-    ensures { result ≡ x }
-{
-    x as usize
-}
-
 // Where the state's bits lead from a name: 0 or 1, or the bit of an end value.
-fn leaf(bit: &[u32], low: &[u32], high: &[u32], name: u32, state: u64) -> u32 {
+fn leaf(nodes: NodeView, name: u32, state: u64) -> u32 {
     let mut a = name;
-    let mut left: usize = 64;
-    while 0 < left {
+    for _ in 0..STATE_BITS {
         if a < 2 {
             return a;
         }
-        let i = wide(a) - 2;
-        if bit.len() <= i {
+        let i = a as usize - 2;
+        if nodes.bit.len().min(nodes.low.len()).min(nodes.high.len()) <= i {
             return 0;
         }
-        if low.len() <= i {
-            return 0;
-        }
-        if high.len() <= i {
-            return 0;
-        }
-        let b = bit[i];
-        if 64 <= b {
+        let b = nodes.bit[i];
+        if STATE_BITS <= b {
             return b;
         }
-        if (state >> b) % 2 == 1 {
-            a = high[i];
+        a = if (state >> b) % 2 == 1 {
+            nodes.high[i]
         } else {
-            a = low[i];
-        }
-        left -= 1;
+            nodes.low[i]
+        };
     }
     0
 }
 
-// The number of lists of n bits, or of 12 where n is more.
+// The number of lists of n bits, or of SHOWN_BITS where n is more.
 fn size(n: usize) -> u64
     ensures { (0 < result) × (result < 8192) }
 {
-    let mut end: u64 = 1;
-    let mut k = 0;
-    while k < n {
-        if end < 4096 {
-            end *= 2;
-        }
-        k += 1;
-    }
-    end
+    1 << n.min(SHOWN_BITS)
 }
 
-// A sum over where every list of n bits leads, at most 12.
-fn checksum(bit: &[u32], low: &[u32], high: &[u32], name: u32, n: usize) -> u64 {
-    let end = size(n);
+// A sum over where every list of n bits leads, at most SHOWN_BITS.
+fn checksum(nodes: NodeView, name: u32, n: usize) -> u64 {
     let mut sum: u64 = 0;
-    let mut state: u64 = 0;
-    while state < end {
-        sum = (sum * 31 + leaf(bit, low, high, name, state) as u64) % 1000003;
-        state += 1;
+    for state in 0..size(n) {
+        sum = (sum * 31 + u64::from(leaf(nodes, name, state))) % 1000003;
     }
     sum
 }
@@ -120,190 +100,95 @@ fn draw(x: u64) -> u64
     x % PRIME * FACTOR % PRIME
 }
 
-// The states that meet a cube.
-fn cube(
-    bit: &mut [u32],
-    low: &mut [u32],
-    high: &mut [u32],
-    heads: &mut [u32],
-    chain: &mut [u32],
-    memo: &mut [u32],
-    count: usize,
-    care: u64,
-    value: u64,
-) -> Made
-    requires { Ready (table bit.old low.old high.old heads.old chain.old count) memo.old 1 }
-    ensures { let s = table bit.old low.old high.old heads.old chain.old count in
-        let s' = table bit.new low.new high.new heads.new chain.new result.count in
-        MakesWith s s' memo.new result (meet_t 64 0 care value (tree s 1)) }
-{
-    diagram_cubes::demand(bit, low, high, heads, chain, memo, count, 0, care, value, 1)
-}
-
 // The set a with a random cube joined to it or, one time in three, taken from it; there are so many states.
-fn change(
-    bit: &mut [u32],
-    low: &mut [u32],
-    high: &mut [u32],
-    heads: &mut [u32],
-    chain: &mut [u32],
-    memo: &mut [u32],
-    count: usize,
-    states: u64,
-    a: u32,
-    x: u64,
-) -> Made
-    requires ready { Ready (table bit.old low.old high.old heads.old chain.old count) memo.old a }
+fn change(nodes: &mut Nodes, memo: &mut [u32], states: u64, a: u32, x: u64) -> Result<u32, Full>
+    requires ready { Ready (table_of nodes.old) memo.old a }
     requires states_nonzero { 0 < states }
-    ensures { Goes (table bit.new low.new high.new heads.new chain.new result.count) memo.new result }
+    ensures goes { IfOk result (λ name. Ready (table_of nodes.new) memo.new name) }
+    ensures lists { SameLists nodes.old nodes.new }
 {
     let y = draw(x);
-    let c = cube(
-        bit,
-        low,
-        high,
-        heads,
-        chain,
-        memo,
-        count,
-        x % states,
-        y % states,
-    );
-    if c.full {
-        return c;
-    }
+    let cube = demand(nodes, memo, 0, x % states, y % states, 1)?;
     if y / 65536 % 3 == 0 {
-        return difference(bit, low, high, heads, chain, memo, c.count, a, c.name);
+        return difference(nodes, memo, a, cube);
     }
-    union(bit, low, high, heads, chain, memo, c.count, a, c.name)
+    union(nodes, memo, a, cube)
 }
 
-// A random set: no state or every state, by turns, and then changed by so many random cubes. The lists have no entry.
+// A random set: no state or every state, by turns, and then changed by so many random cubes.
 fn random_set(
-    bit: &mut [u32],
-    low: &mut [u32],
-    high: &mut [u32],
-    heads: &mut [u32],
-    chain: &mut [u32],
+    nodes: &mut Nodes,
     memo: &mut [u32],
     states: u64,
     cubes: u32,
     seed: u64,
-) -> Made
-    requires ready { Ready (table bit.old low.old high.old heads.old chain.old 0) memo.old 1 }
+) -> Result<u32, Full>
+    requires ready { Ready (table_of nodes.old) memo.old 1 }
     requires states_nonzero { 0 < states }
-    ensures { Goes (table bit.new low.new high.new heads.new chain.new result.count) memo.new result }
+    ensures goes { IfOk result (λ name. Ready (table_of nodes.new) memo.new name) }
+    ensures lists { SameLists nodes.old nodes.new }
 {
     let mut name = cubes % 2;
-    let mut entries = 0;
     let mut x = seed;
-    let mut k: u32 = 0;
-    while k < cubes {
-        let r = change(bit, low, high, heads, chain, memo, entries, states, name, x);
-        if r.full {
-            return r;
-        }
-        name = r.name;
-        entries = r.count;
+    for _ in 0..cubes {
+        name = change(nodes, memo, states, name, x)?;
         x = draw(draw(x));
-        k += 1;
     }
-    done(name, entries)
+    Ok(name)
 }
 
 // Within a random set: the greatest utility and 1, 0 where it is empty, and a sum over the states that have it.
 fn within<W: Write>(
     out: &mut W,
-    bit: &mut [u32],
-    low: &mut [u32],
-    high: &mut [u32],
-    heads: &mut [u32],
-    chain: &mut [u32],
+    sets: &mut Nodes,
     memo: &mut [u32],
-    ubit: &[u32],
-    ulow: &[u32],
-    uhigh: &[u32],
-    ucount: usize,
-    u: u32,
+    utility: Utility,
     n: usize,
     cubes: u32,
     seed: u64,
 ) -> io::Result<()>
-    requires store { Store (nodes ubit.now ulow.now uhigh.now ucount) × (u < ucount + 2) }
-    requires low_len { (length low.old ≡ length bit.old) × (length high.old ≡ length bit.old) × (length bit.old ≤ 1048576) }
+    requires values { Named utility }
+    requires even { EvenLists sets.old }
+    ensures lists { SameLists sets.old sets.new }
 {
     diagram_memo::begin(memo);
-    let b = random_set(bit, low, high, heads, chain, memo, size(n), cubes, seed);
-    if b.full {
+    sets.count = 0;
+    let Ok(set) = random_set(sets, memo, size(n), cubes, seed) else {
         return Ok(());
-    }
-    let top = utility_greatest::greatest(
-        bit, low, high, ubit, ulow, uhigh, memo, b.count, ucount, b.name, u,
-    );
-    show(out, top as u64)?;
+    };
+    let top = greatest(sets.view(), utility.nodes, memo, set, utility.root);
+    show(out, u64::from(top))?;
     if top == 0 {
         return Ok(());
     }
-    let r = utility_select::select(
-        bit,
-        low,
-        high,
-        heads,
-        chain,
-        memo,
-        ubit,
-        ulow,
-        uhigh,
-        b.count,
-        ucount,
-        top - 1,
-        b.name,
-        u,
-    );
-    show(out, checksum(bit, low, high, r.name, n))
+    let name = select(sets, memo, utility.nodes, top - 1, set, utility.root).unwrap_or(0);
+    show(out, checksum(sets.view(), name, n))
 }
 
 // The same within sets of no cube, one cube and so on.
 fn within_sets<W: Write>(
     out: &mut W,
-    bit: &mut [u32],
-    low: &mut [u32],
-    high: &mut [u32],
-    heads: &mut [u32],
-    chain: &mut [u32],
+    sets: &mut Nodes,
     memo: &mut [u32],
-    ubit: &[u32],
-    ulow: &[u32],
-    uhigh: &[u32],
-    ucount: usize,
-    u: u32,
+    utility: Utility,
     n: usize,
     seed: u64,
 ) -> io::Result<()>
-    requires store { Store (nodes ubit.now ulow.now uhigh.now ucount) × (u < ucount + 2) }
-    requires low_len { (length low.old ≡ length bit.old) × (length high.old ≡ length bit.old) × (length bit.old ≤ 1048576) }
+    requires values { Named utility }
+    requires even { EvenLists sets.old }
+    ensures lists { SameLists sets.old sets.new }
 {
     let x = draw(seed);
-    let mut cubes: u32 = 0;
-    while cubes < SETS {
+    for cubes in 0..SETS {
         within(
             out,
-            bit,
-            low,
-            high,
-            heads,
-            chain,
+            sets,
             memo,
-            ubit,
-            ulow,
-            uhigh,
-            ucount,
-            u,
+            utility,
             n,
             cubes,
-            draw(x + cubes as u64),
+            draw(x + u64::from(cubes)),
         )?;
-        cubes += 1;
     }
     Ok(())
 }
@@ -318,27 +203,15 @@ fn fits(file: &[u8], n: usize, m: usize) -> bool
     let mut heads = [0u32; LENT];
     let mut chain = [0u32; LENT];
     let mut memo = [0u32; MEMO];
-    let r = utility_build::build(
-        file,
-        &mut bit[..n],
-        &mut low[..n],
-        &mut high[..n],
-        &mut heads[..],
-        &mut chain[..],
-        &mut memo[..m],
-    );
-    !r.full
-}
-
-// 1 where lists of n entries hold the diagram, else 0; with a memo of m numbers.
-fn show_fit<W: Write>(out: &mut W, file: &[u8], n: usize, m: usize) -> io::Result<()>
-    requires { (accepted file.now ≡ true) × (n ≤ 512) × (m ≤ 8192) }
-{
-    if fits(file, n, m) {
-        show(out, 1)
-    } else {
-        show(out, 0)
-    }
+    let mut nodes = Nodes {
+        bit: &mut bit[..n],
+        low: &mut low[..n],
+        high: &mut high[..n],
+        heads: &mut heads,
+        chain: &mut chain,
+        count: 0,
+    };
+    build(file, &mut nodes, &mut memo[..m]).is_ok()
 }
 
 // A sum over the states with permitted values, among the lists of n bits.
@@ -350,72 +223,53 @@ fn permitted(file: &[u8], n: usize) -> u64
     let mut high = [0u32; MOST_BITS];
     let mut heads = [0u32; MOST_BITS];
     let mut chain = [0u32; MOST_BITS];
-    let r = utility_ceiling::permitted_states(
-        file,
-        &mut bit[..],
-        &mut low[..],
-        &mut high[..],
-        &mut heads[..],
-        &mut chain[..],
-    );
-    checksum(&bit[..], &low[..], &high[..], r.name, n)
+    let mut nodes = Nodes {
+        bit: &mut bit,
+        low: &mut low,
+        high: &mut high,
+        heads: &mut heads,
+        chain: &mut chain,
+        count: 0,
+    };
+    let name = permitted_states(file, &mut nodes);
+    checksum(nodes.view(), name, n)
 }
 
-// The ceiling, from the utility diagram named u.
-fn show_ceiling<W: Write>(
-    out: &mut W,
-    file: &[u8],
-    ubit: &[u32],
-    ulow: &[u32],
-    uhigh: &[u32],
-    memo: &mut [u32],
-    ucount: usize,
-    u: u32,
-) -> io::Result<()>
-    requires file_value { accepted file.now ≡ true }
-    requires valued { Valued (task_of file.now) (nodes ubit.now ulow.now uhigh.now ucount) u }
-{
-    let top = utility_ceiling::ceiling(file, ubit, ulow, uhigh, memo, ucount, u);
-    show(out, top as u64)
-}
-
-// All that is shown of an accepted file, with memo lists of m numbers.
+// All that is shown of an accepted file.
 fn run<W: Write>(
     out: &mut W,
     file: &[u8],
-    ubit: &mut [u32],
-    ulow: &mut [u32],
-    uhigh: &mut [u32],
-    bit: &mut [u32],
-    low: &mut [u32],
-    high: &mut [u32],
-    heads: &mut [u32],
-    chain: &mut [u32],
+    values: &mut Nodes,
+    sets: &mut Nodes,
     memo: &mut [u32],
-    m: usize,
     seed: u64,
 ) -> io::Result<()>
-    requires file_value { (accepted file.now ≡ true) × (m ≤ 8192) }
-    requires ulow_len { (length ulow.old ≡ length ubit.old) × (length uhigh.old ≡ length ubit.old) × (length ubit.old ≡ 512) }
-    requires low_len { (length low.old ≡ length bit.old) × (length high.old ≡ length bit.old) × (length bit.old ≤ 1048576) }
+    requires file_value { (accepted file.now ≡ true) × (length memo.old ≤ 8192) }
+    requires even_values { EvenLists values.old × (length values.old.bit.now ≡ 512) }
+    requires even { EvenLists sets.old }
+    ensures value_lists { SameLists values.old values.new }
+    ensures lists { SameLists sets.old sets.new }
 {
-    let r = utility_build::build(file, ubit, ulow, uhigh, heads, chain, memo);
-    if r.full {
+    let m = memo.len();
+    let Ok(root) = build(file, values, memo) else {
+        return Ok(());
+    };
+    let count = values.count;
+    if count == 0 {
         return Ok(());
     }
-    if r.count == 0 {
-        return Ok(());
-    }
+    let utility = Utility {
+        nodes: values.view(),
+        root,
+    };
     let n = task::coding::bits(file);
-    show(out, r.count as u64)?;
-    show_fit(out, file, r.count, m)?;
-    show_fit(out, file, r.count - 1, m)?;
-    show(out, checksum(ubit, ulow, uhigh, r.name, n))?;
-    within_sets(
-        out, bit, low, high, heads, chain, memo, ubit, ulow, uhigh, r.count, r.name, n, seed,
-    )?;
+    show(out, count as u64)?;
+    show(out, u64::from(fits(file, count, m)))?;
+    show(out, u64::from(fits(file, count - 1, m)))?;
+    show(out, checksum(utility.nodes, root, n))?;
+    within_sets(out, sets, memo, utility, n, seed)?;
     show(out, permitted(file, n))?;
-    show_ceiling(out, file, ubit, ulow, uhigh, memo, r.count, r.name)
+    show(out, u64::from(ceiling(file, utility, memo)))
 }
 
 // A line for a file, with memo lists of m numbers.
@@ -423,30 +277,34 @@ fn case<W: Write>(out: &mut W, file: &[u8], m: usize, seed: u64) -> io::Result<(
     requires { m ≤ 8192 }
 {
     if task_check::accepted(file) {
-        let mut ubit = [0u32; LENT];
-        let mut ulow = [0u32; LENT];
-        let mut uhigh = [0u32; LENT];
+        let mut value_bit = [0u32; LENT];
+        let mut value_low = [0u32; LENT];
+        let mut value_high = [0u32; LENT];
+        let mut value_heads = [0u32; LENT];
+        let mut value_chain = [0u32; LENT];
+        let mut values = Nodes {
+            bit: &mut value_bit,
+            low: &mut value_low,
+            high: &mut value_high,
+            heads: &mut value_heads,
+            chain: &mut value_chain,
+            count: 0,
+        };
         let mut bit = [0u32; LENT];
         let mut low = [0u32; LENT];
         let mut high = [0u32; LENT];
         let mut heads = [0u32; LENT];
         let mut chain = [0u32; LENT];
+        let mut sets = Nodes {
+            bit: &mut bit,
+            low: &mut low,
+            high: &mut high,
+            heads: &mut heads,
+            chain: &mut chain,
+            count: 0,
+        };
         let mut memo = [0u32; MEMO];
-        run(
-            out,
-            file,
-            &mut ubit[..],
-            &mut ulow[..],
-            &mut uhigh[..],
-            &mut bit[..],
-            &mut low[..],
-            &mut high[..],
-            &mut heads[..],
-            &mut chain[..],
-            &mut memo[..m],
-            m,
-            seed,
-        )?;
+        run(out, file, &mut values, &mut sets, &mut memo[..m], seed)?;
     }
     writeln!(out)
 }
@@ -455,25 +313,18 @@ fn main(rt: HostRuntime) -> io::Result<()> {
     let mut out = io::writer(&rt);
     let mut buffer = [0u8; MOST_BYTES];
     let n = read_full(&mut rt.reader(), &mut buffer);
-    let text = &buffer[..n];
-    let mut at = 0;
-    let mut left = n;
+    let mut rest = &buffer[..n];
     let mut seed: u64 = 1;
-    while HEADER <= left {
-        let len = le32(text, at + 24);
-        if len < HEADER {
+    while HEADER <= rest.len() {
+        let len = le32(rest, 24);
+        if len < HEADER || rest.len() < len {
             return Ok(());
         }
-        if left < len {
-            return Ok(());
+        let (file, after) = rest.split_at(len);
+        for m in [0, 1, MEMO] {
+            case(&mut out, file, m, seed)?;
         }
-        let end = at + len;
-        let file = &text[at..end];
-        case(&mut out, file, 0, seed)?;
-        case(&mut out, file, 1, seed)?;
-        case(&mut out, file, MEMO, seed)?;
-        at = end;
-        left -= len;
+        rest = after;
         seed = draw(seed);
     }
     Ok(())

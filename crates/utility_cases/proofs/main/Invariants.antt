@@ -1,9 +1,6 @@
--- What is left ends with the text.
-use Rattle.std.proofs.Common.{◌≡◌, ◌+◌, length}
+-- Less is left after each file.
+use Rattle.std.proofs.Common.{length}
 use Rattle.utility_cases.proofs.main.Given as goal
 
-abbrev pub invariant-loop-left : goal.invariant-loop-left
-invariant-loop-left l = (l.at + l.left ≡ l.n) × (l.n ≡ length l.text)
-
-abbrev pub decreases-loop-left : goal.decreases-loop-left
-decreases-loop-left l = l.left
+abbrev pub decreases-loop-rest : goal.decreases-loop-rest
+decreases-loop-rest l = length l.rest
