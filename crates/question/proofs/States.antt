@@ -1,7 +1,7 @@
 -- The test of a state (20): the code's reads give it, and a state that passes has a value below its number of values for each variable.
 use Prim.Native.Nat.{ℕ, suc, ◌≤◌, ◌<◌}
 use mathlib.Core.Path.{◌≡◌, refl, sym, ◌∙◌}
-use mathlib.Core.Bool.{true, false}
+use mathlib.Core.Bool.{Bool, true, false}
 use mathlib.Core.List.{List, [], ◌∷◌}
 use native.Mathlib.Omega.{arith}
 use lib.Dec.{ltb}
@@ -9,7 +9,8 @@ use lib.ListN.{length, get_or}
 use borrow.Author.Tests.{eqb-true, ltb-true, eq-eqb, ne_eqb}
 use Rattle.planning.specs.Coding.{bits, Valid}
 use Rattle.planning.proofs.Guards.{and_both, and_go, and_stop}
-use Rattle.planning.proofs.Scan.{EveryFrom, every_at, every_stop, every_done}
+use Rattle.planning.proofs.Scan.{every_at}
+use Rattle.planning.specs.Scan.{every}
 use Rattle.task.specs.Bytes.{byte}
 use Rattle.task.specs.Format.{variables, size}
 use Rattle.task.specs.Decode.{sizes}
@@ -46,21 +47,14 @@ few_bits f a = (sound f a).few_bits
 pub state_long : (f state : List ℕ) → state_right (sizes f) state ≡ true → length state ≡ variables f
 state_long f state right = state_length (sizes f) state right ∙ length_sizes f
 
--- ---- the scan of the values: a state that has not one for each variable, or a value out of its range, and one that passes
+-- ---- the scan of the values: of a state that has not one for each variable, and of one that has
 module _ (f state : List ℕ) where
   pub state_short : (length state ≡ variables f → ⊥) → false ≡ state_right (sizes f) state
   unfolding state_right
   state_short d = and_stop _ _ _ (ne_eqb _ _ (λ q. d (q ∙ length_sizes f))) refl
 
-  module _ (long : length state ≡ variables f) where
-    pub value_wrong : (v : ℕ) → v < length state → EveryFrom (value_right (sizes f) state) (length state) v → value_right (sizes f) state v ≡ false → false ≡ state_right (sizes f) state
-    unfolding state_right
-    value_wrong v lt inv e =
-        let q : length state ≡ length (sizes f) = long ∙ sym (length_sizes f) in
-        and_go _ _ _ (eq-eqb _ _ q) (rw (← q) (every_stop _ _ _ lt inv e))
-
-    pub values_right : (v : ℕ) → length state ≤ v → EveryFrom (value_right (sizes f) state) (length state) v → true ≡ state_right (sizes f) state
-    unfolding state_right
-    values_right v le inv =
-        let q : length state ≡ length (sizes f) = long ∙ sym (length_sizes f) in
-        and_go _ _ _ (eq-eqb _ _ q) (rw (← q) (every_done _ _ _ le inv))
+  pub state_scanned : length state ≡ variables f → (r : Bool) → r ≡ every (value_right (sizes f) state) (length state) 0 → r ≡ state_right (sizes f) state
+  unfolding state_right
+  state_scanned long r e =
+      let q : length state ≡ length (sizes f) = long ∙ sym (length_sizes f) in
+      and_go _ _ _ (eq-eqb _ _ q) (rw (← q) e)

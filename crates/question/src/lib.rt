@@ -48,19 +48,11 @@ fn value_right(file: &[u8], state: &[u8], v: usize) -> bool
 }
 
 // 20: there is a value for each variable, and each is in its range.
-#[tactic(auto, using(crate::proofs::States::state_short, crate::proofs::States::value_wrong, crate::proofs::States::values_right, planning::proofs::Scan::every_more))]
+#[tactic(auto, using(crate::proofs::States::state_short))]
 fn state_right(file: &[u8], state: &[u8]) -> bool
     ensures { result ≡ state_right (sizes file.now) state.now }
 {
-    if state.len() != variables(file) {
-        return false;
-    }
-    for v in 0..state.len() {
-        if !value_right(file, state, v) {
-            return false;
-        }
-    }
-    true
+    state.len() == variables(file) && (0..state.len()).all(|v| value_right(file, state, v))
 }
 
 // Cost and steps of the first pair whose set holds the state.

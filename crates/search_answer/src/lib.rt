@@ -21,6 +21,7 @@ pub struct Listing {
 }
 
 // The figures of a task file whose sets are made; there is no plan yet.
+#[tactic(auto, using(task::proofs::Goodness::bound_is))]
 pub fn figures(
     file: &[u8],
     utility: usize,

@@ -7,12 +7,11 @@ use Rattle.planning.specs.Model.{cost, utility}
 use Rattle.planning.proofs.Theorems.{best_unique}
 use Rattle.task.specs.Decode.{task_of}
 use Rattle.search_answer.specs.declared.Listing.{Listing}
-use Rattle.search_answer.specs.declared.Searched.TheVariants.{Found}
+use Rattle.std.proofs.Common.{Ok}
 use Rattle.search_answer.specs.Lent.{Lent}
 use Rattle.search.specs.Leaves.{Searches}
 use Rattle.search.proofs.Demands.{search_best}
 use Rattle.states_answer.specs.declared.Summary.{Summary}
-use Rattle.states_answer.specs.declared.Enumerated.TheVariants.{Listed}
 use Rattle.states_answer.specs.Lent.{Lent as StateLists}
 use Rattle.states.specs.Leaves.{Enumerates}
 use Rattle.states.proofs.Demands.{states_best}
@@ -31,7 +30,7 @@ begins : (p q : List ℕ) (n : ℕ) (before after : List ℕ) → n ≡ length p
 begins p q n before after e d h = h ∙ rw (e, d)
 
 pub engines_agree : (f : List ℕ) (before after : Lent) (l : Listing) (before' after' : StateLists) (m : Summary)
-    → Searches f before after (Found l) → Enumerates f before' after' (Listed m) → Agree l m before after before' after'
+    → Searches f before after (Ok l) → Enumerates f before' after' (Ok m) → Agree l m before after before' after'
 engines_agree f before after l before' after' m s e =
     let a = search_best f before after l s in
     let b = states_best f before' after' m e in

@@ -13,20 +13,19 @@ use Rattle.task.specs.Decode.{task_of}
 use Rattle.lent_lists.specs.Lists.{lists_wrong, pairs_wrong}
 use Rattle.lent_lists.proofs.Passing.{or_neither}
 use Rattle.search_answer.specs.declared.Listing.{Listing}
-use Rattle.search_answer.specs.declared.Searched.TheVariants.{Found}
+use Rattle.std.proofs.Common.{Ok, None}
 use Rattle.search_answer.specs.Lent.{Lent}
 use Rattle.search_answer.specs.Search.{listing_of, any_wrong}
 use Rattle.search.specs.Leaves.{Searches}
 use Rattle.search.proofs.Demands.{PassedTests, passed, search_count}
 use Rattle.search_theory.specs.Stop.{pair_task}
 use Rattle.search_theory.specs.Made.{node_count}
-use Rattle.question.specs.declared.Answered.{Answered}
-use Rattle.question.specs.declared.Answered.TheVariants.{Reached, NotReached}
+use Rattle.question.specs.Answers.{Answered, reached}
 use Rattle.question.specs.Question.{state_right, question_of}
 use Rattle.question.specs.Meaning.{NamesPairs, Tells}
 use Rattle.question.proofs.Theorem.{question_tells, question_reached, question_not_reached}
 
-module _ (f : List ℕ) (before after : Lent) (l : Listing) (s : Searches f before after (Found l)) where
+module _ (f : List ℕ) (before after : Lent) (l : Listing) (s : Searches f before after (Ok l)) where
   abbrev p : PassedTests f before l
   p = passed f before l s.answers
 
@@ -68,7 +67,7 @@ module _ (f : List ℕ) (before after : Lent) (l : Listing) (s : Searches f befo
     tells = question_tells f p.sound after.costs after.steps after.sets after.wanted after.bit after.low after.high l.nodes l.pairs leaves_pairs state right
 
     -- it is a cost and steps exactly if these are the state's place, and the search makes that pair
-    pub search_then_question : (c k : ℕ) → (asked ≡ Reached c k) ↔ (Place (task_of f) state c k × Due (task_of f) c k)
+    pub search_then_question : (c k : ℕ) → (asked ≡ Ok (reached c k)) ↔ (Place (task_of f) state c k × Due (task_of f) c k)
     unfolding task_of
     search_then_question c k = (
       λ e. subst (Tells (task_of f) state) e tells,
@@ -76,7 +75,7 @@ module _ (f : List ℕ) (before after : Lent) (l : Listing) (s : Searches f befo
     )
 
     -- and "not reached" exactly if the state's place is no such pair
-    pub search_then_not_reached : (asked ≡ NotReached) ↔ ((c k : ℕ) → Place (task_of f) state c k → Due (task_of f) c k → ⊥)
+    pub search_then_not_reached : (asked ≡ Ok None) ↔ ((c k : ℕ) → Place (task_of f) state c k → Due (task_of f) c k → ⊥)
     unfolding task_of
     search_then_not_reached = (
       λ e. subst (Tells (task_of f) state) e tells,

@@ -5,12 +5,10 @@ use mathlib.Core.List.{List}
 use Rattle.task.specs.Decode.{task_of}
 use Rattle.search_answer.specs.Lent.{Lent}
 use Rattle.search.specs.Leaves.{Leaves, Searches}
-use Rattle.search_answer.specs.declared.Searched.{Searched}
-use lib.ListN.{length}
-use Rattle.writer.specs.declared.Written.{Written}
-use Rattle.writer.specs.Write.{write_of, leaves}
-use Rattle.writer.specs.Answers.{numbers as write_numbers}
-use Rattle.states_answer.specs.declared.Enumerated.{Enumerated}
+use Rattle.std.proofs.Common.{Result}
+use Rattle.refusal.specs.declared.Refusal.{Refusal}
+use Rattle.search_answer.specs.declared.Listing.{Listing}
+use Rattle.states_answer.specs.declared.Summary.{Summary}
 use Rattle.states_answer.specs.Lent.{Lent as StateLists}
 use Rattle.states.specs.Leaves.{Enumerates}
 use Rattle.states.specs.Leaves.{Leaves as StatesLeave}
@@ -20,18 +18,14 @@ use Rattle.reports.specs.declared.Tally.{Tally}
 use Rattle.supervisor.specs.Reports.{Reports, ReportsStates}
 use Rattle.reports.specs.declared.Totals.{Totals}
 
-pub search_is : (w : Searched) (f : List ℕ) (before after : Lent) (x : Totals) → Searches f before after w → x ≡ totals_of w → Reports f before after x
+pub search_is : (w : Result Listing Refusal) (f : List ℕ) (before after : Lent) (x : Totals) → Searches f before after w → x ≡ totals_of w → Reports f before after x
 search_is w f before after x s r = record {
   answers = r ∙ ap totals_of s.answers;
-  leaves = subst (λ (a : Searched). Leaves (task_of f) a before after) s.answers s.leaves;
+  leaves = subst (λ (a : Result Listing Refusal). Leaves (task_of f) a before after) s.answers s.leaves;
 }
 
-pub states_is : (w : Enumerated) (f : List ℕ) (before after : StateLists) (x : Tally) → Enumerates f before after w → x ≡ tally_of w → ReportsStates f before after x
+pub states_is : (w : Result Summary Refusal) (f : List ℕ) (before after : StateLists) (x : Tally) → Enumerates f before after w → x ≡ tally_of w → ReportsStates f before after x
 states_is w f before after x s r = record {
   answers = r ∙ ap tally_of s.answers;
-  leaves = subst (λ (a : Enumerated). StatesLeave (task_of f) a before after) s.answers s.leaves;
+  leaves = subst (λ (a : Result Summary Refusal). StatesLeave (task_of f) a before after) s.answers s.leaves;
 }
-
-pub write_is : (w : Written) (f out out' : List ℕ) (x : ℕ × ℕ × ℕ) → (w ≡ write_of f (length out)) × (out' ≡ leaves w f out) → x ≡ write_numbers w
-    → (x ≡ write_numbers (write_of f (length out))) × (out' ≡ leaves (write_of f (length out)) f out)
-write_is w f out out' x s r = (r ∙ ap write_numbers s.0, s.1 ∙ ap (λ (a : Written). leaves a f out) s.0)

@@ -5,14 +5,12 @@ use mathlib.Core.Path.{◌≡◌, refl, sym}
 use mathlib.Core.List.{List}
 use native.Mathlib.Omega.{arith}
 use Rattle.search_answer.specs.declared.Listing.{Listing}
-use Rattle.search_answer.specs.declared.Searched.{Searched}
-use Rattle.search_answer.specs.declared.Searched.TheVariants.{Refused, Found}
+use Rattle.std.proofs.Common.{Result, Ok, Err}
+use Rattle.refusal.specs.declared.Refusal.{Refusal}
 use Rattle.search_answer.specs.Lent.{Lent}
 use Rattle.search_answer.specs.Search.{search_of}
 use Rattle.search.proofs.Demands.{search_within}
 use Rattle.states_answer.specs.declared.Summary.{Summary}
-use Rattle.states_answer.specs.declared.Enumerated.{Enumerated}
-use Rattle.states_answer.specs.declared.Enumerated.TheVariants as enumerated
 use Rattle.states_answer.specs.Lent.{Lent as StateLists}
 use Rattle.states_answer.specs.States.{states_of}
 use Rattle.states.proofs.Demands.{states_within_lem}
@@ -26,7 +24,7 @@ use Rattle.reports.specs.Tallies.{tally_of}
 use Rattle.supervisor.specs.Reports.{Reports, ReportsStates}
 
 -- of the figures of a search that found a plan
-pub search_time : (f : List ℕ) (before : Lent) (l : Listing) → Found l ≡ search_of f before → TellsTime l.cost l.bound (time_of l.cost l.bound)
+pub search_time : (f : List ℕ) (before : Lent) (l : Listing) → Ok l ≡ search_of f before → TellsTime l.cost l.bound (time_of l.cost l.bound)
 search_time f before l e = time_tells l.cost l.bound (search_within f before l e)
 
 -- the three numbers in the totals for C
@@ -37,12 +35,12 @@ time_in r = record { minutes = r.minutes; units = r.units; unused = r.unused }
 pub totals_time : (f : List ℕ) (before after : Lent) (r : Totals) → Reports f before after r → TellsTime r.cost r.bound (time_in r)
 totals_time f before after r s = rw s.answers (by (search_of f before) refl)
   where
-    by : (x : Searched) → search_of f before ≡ x → TellsTime (totals_of x).cost (totals_of x).bound (time_in (totals_of x))
-    by (Refused number place) e = record { units = omega arith; spent = omega arith; whole = omega arith }
-    by (Found l) e = search_time f before l (sym e)
+    by : (x : Result Listing Refusal) → search_of f before ≡ x → TellsTime (totals_of x).cost (totals_of x).bound (time_in (totals_of x))
+    by (Err refusal) e = record { units = omega arith; spent = omega arith; whole = omega arith }
+    by (Ok l) e = search_time f before l (sym e)
 
 -- the same of the engine that lists states
-pub states_time : (f : List ℕ) (before : StateLists) (m : Summary) → enumerated.Listed m ≡ states_of f before → TellsTime m.cost m.bound (time_of m.cost m.bound)
+pub states_time : (f : List ℕ) (before : StateLists) (m : Summary) → Ok m ≡ states_of f before → TellsTime m.cost m.bound (time_of m.cost m.bound)
 states_time f before m e = time_tells m.cost m.bound (states_within_lem f before m e)
 
 -- the three numbers in the tally for C
@@ -53,6 +51,6 @@ time_of_tally r = record { minutes = r.minutes; units = r.units; unused = r.unus
 pub tally_time : (f : List ℕ) (before after : StateLists) (r : Tally) → ReportsStates f before after r → TellsTime r.cost r.bound (time_of_tally r)
 tally_time f before after r s = rw s.answers (by (states_of f before) refl)
   where
-    by : (x : Enumerated) → states_of f before ≡ x → TellsTime (tally_of x).cost (tally_of x).bound (time_of_tally (tally_of x))
-    by (enumerated.Refused number place) e = record { units = omega arith; spent = omega arith; whole = omega arith }
-    by (enumerated.Listed m) e = states_time f before m (sym e)
+    by : (x : Result Summary Refusal) → states_of f before ≡ x → TellsTime (tally_of x).cost (tally_of x).bound (time_of_tally (tally_of x))
+    by (Err refusal) e = record { units = omega arith; spent = omega arith; whole = omega arith }
+    by (Ok m) e = states_time f before m (sym e)

@@ -14,10 +14,9 @@ ghost use Rattle.question.specs.Answers.{numbers as question_numbers};
 ghost use Rattle.reports.specs.Reported.{reported, placed, check_numbers};
 ghost use Rattle.supervisor.specs.Reports.{Reports, ReportsStates};
 
-use question::question;
-use reports::{
-    Place, Report, Tally, Totals, of_check, of_question, of_search, of_states, of_walk, of_write,
-};
+use diagrams::NodeView;
+use question::{Pairs, question};
+use reports::{Place, Report, Tally, Totals};
 use search::search;
 use states::list_states;
 use task_check::check;
@@ -29,7 +28,7 @@ use writer::write;
 pub extern "C" fn laurelsnap_check(file: &[u8]) -> Report
     ensures { reported result ≡ check_numbers (check_of file.now) }
 {
-    of_check(check(file))
+    Report::from(check(file))
 }
 
 // The writer: 0 and the length written, or the refusal's number and value.
@@ -41,7 +40,7 @@ pub extern "C" fn laurelsnap_write(file: &[u8], out: &mut [u8]) -> Report
         let answer = write_of f (length before) in
         (reported result ≡ write_numbers answer) × (after ≡ leaves answer f before) }
 {
-    of_write(write(file, out))
+    Report::from(write(file, out))
 }
 
 // The walk of a plan: 0, cost and utility, or the refusal's number and value.
@@ -49,10 +48,11 @@ pub extern "C" fn laurelsnap_write(file: &[u8], out: &mut [u8]) -> Report
 pub extern "C" fn laurelsnap_walk(file: &[u8], plan: &[u8]) -> Report
     ensures { reported result ≡ walk_numbers (walk_of file.now plan.now) }
 {
-    of_walk(walk(file, plan))
+    Report::from(walk(file, plan))
 }
 
 // The search for the best plan.
+#[tactic(auto, using(crate::proofs::Reports::search_is))]
 #[unsafe(no_mangle)]
 pub extern "C" fn laurelsnap_search(
     file: &[u8],
@@ -77,7 +77,7 @@ pub extern "C" fn laurelsnap_search(
         ubit.new ulow.new uhigh.new heads.new chain.new memo.new plan.new in
         Reports file.now before after result }
 {
-    of_search(search(
+    Totals::from(search(
         file, costs, steps, sets, wanted, bit, low, high, ubit, ulow, uhigh, heads, chain, memo,
         plan,
     ))
@@ -102,12 +102,24 @@ pub extern "C" fn laurelsnap_question(
         costs.now steps.now sets.now wanted.now bit.now low.now high.now count pairs in
         placed result ≡ question_numbers answer }
 {
-    of_question(question(
-        file, state, costs, steps, sets, wanted, bit, low, high, count, pairs,
-    ))
+    let pairs = Pairs {
+        costs,
+        steps,
+        sets,
+        wanted,
+        count: pairs,
+    };
+    let nodes = NodeView {
+        bit,
+        low,
+        high,
+        count,
+    };
+    Place::from(question(file, state, pairs, nodes))
 }
 
 // The engine that lists states: every state within the bound with its place, and the best plan.
+#[tactic(auto, using(crate::proofs::Reports::states_is))]
 #[unsafe(no_mangle)]
 pub extern "C" fn laurelsnap_states(
     file: &[u8],
@@ -122,5 +134,5 @@ pub extern "C" fn laurelsnap_states(
         let after = state_lists states.new costs.new steps.new heads.new links.new plan.new in
         ReportsStates file.now before after result }
 {
-    of_states(list_states(file, states, costs, steps, heads, links, plan))
+    Tally::from(list_states(file, states, costs, steps, heads, links, plan))
 }
