@@ -3,13 +3,15 @@
 // asks them of the stand's P with the bound 2, and prints each name with the answer.
 #![tactic(auto)]
 
+ghost use Rattle.std.specs.Prelude.{◌≤◌, length};
+
 use diagrams::NodeView;
 use input::read_full;
 use question::{Pairs, Place, question};
 use refusal::Refusal;
+use std::io;
 use std::io::Write;
-use std::str::Split;
-use std::{io, str};
+use task::bytes::byte;
 
 // The most numbers of a list.
 const WIDEST: usize = 8;
@@ -26,24 +28,29 @@ fn show<W: Write>(out: &mut W, answer: Result<Option<Place>, Refusal>) -> io::Re
     }
 }
 
-// The digits of the next field, as many as there is room for, put at the front of the room.
-fn digits<'a, T: From<u8> + Drop>(room: &'a mut [T], fields: &mut Split<'_, char>) -> &'a [T] {
-    let field = fields.next().unwrap_or("");
-    for (place, digit) in room.iter_mut().zip(field.bytes()) {
+// What stands from a place on, or nothing.
+fn from(line: &[u8], at: usize) -> &[u8] {
+    line.get(at..).unwrap_or(&[])
+}
+
+// The digit at a place, as a number.
+fn digit(line: &[u8], at: usize) -> u8 {
+    (byte(line, at).saturating_sub(48) % 10) as u8
+}
+
+// The digits at the front, as many as there is room for, put at the front of the room; and what stands behind them and one byte more.
+fn digits<'a, 'b, T: From<u8> + Drop>(room: &'a mut [T], line: &'b [u8]) -> (&'a [T], &'b [u8]) {
+    let end = line.iter().position(|x| !x.is_ascii_digit());
+    let count = end.unwrap_or(line.len()).min(room.len());
+    for (place, digit) in room.iter_mut().zip(line) {
         *place = T::from(digit.saturating_sub(b'0'));
     }
-    let count = field.len().min(room.len());
     let (list, _) = room.split_at(count);
-    list
+    (list, from(line, count + 1))
 }
 
-// The next field, as a number; 0 where it is none.
-fn number(fields: &mut Split<'_, char>) -> usize {
-    fields.next().unwrap_or("").parse().unwrap_or(0)
-}
-
-// The answer to a case, whose state, lists of pairs, node lists, count of entries and number of pairs stand in its fields.
-fn asked(file: &[u8], fields: &mut Split<'_, char>) -> Result<Option<Place>, Refusal> {
+// The answer to a case, whose state, lists of pairs, node lists, count of entries and number of pairs stand one behind the other.
+fn asked(file: &[u8], text: &[u8]) -> Result<Option<Place>, Refusal> {
     let mut values = [0u8; WIDEST];
     let mut costs = [0u32; WIDEST];
     let mut steps = [0u32; WIDEST];
@@ -52,38 +59,35 @@ fn asked(file: &[u8], fields: &mut Split<'_, char>) -> Result<Option<Place>, Ref
     let mut bit = [0u32; WIDEST];
     let mut low = [0u32; WIDEST];
     let mut high = [0u32; WIDEST];
-    let state = digits(&mut values, fields);
+    let (state, text) = digits(&mut values, text);
+    let (costs, text) = digits(&mut costs, text);
+    let (steps, text) = digits(&mut steps, text);
+    let (sets, text) = digits(&mut sets, text);
+    let (wanted, text) = digits(&mut wanted, text);
+    let (bit, text) = digits(&mut bit, text);
+    let (low, text) = digits(&mut low, text);
+    let (high, text) = digits(&mut high, text);
     let pairs = Pairs {
-        costs: digits(&mut costs, fields),
-        steps: digits(&mut steps, fields),
-        sets: digits(&mut sets, fields),
-        wanted: digits(&mut wanted, fields),
-        count: 0,
+        costs,
+        steps,
+        sets,
+        wanted,
+        count: usize::from(digit(text, 2)),
     };
     let nodes = NodeView {
-        bit: digits(&mut bit, fields),
-        low: digits(&mut low, fields),
-        high: digits(&mut high, fields),
-        count: number(fields),
+        bit,
+        low,
+        high,
+        count: usize::from(digit(text, 0)),
     };
-    question(
-        file,
-        state,
-        Pairs {
-            count: number(fields),
-            ..pairs
-        },
-        nodes,
-    )
+    question(file, state, pairs, nodes)
 }
 
-// One case: its name, and the answer.
-fn case<W: Write>(out: &mut W, file: &[u8], line: &str) -> io::Result<()> {
-    let Some((name, lists)) = line.split_once(": ") else {
-        return Ok(());
-    };
-    write!(out, "{name}")?;
-    show(out, asked(file, &mut lists.split(' ')))
+// One case: its name, up to the colon, and the answer.
+fn case<W: Write>(out: &mut W, file: &[u8], line: &[u8]) -> io::Result<()> {
+    let end = line.iter().position(|x| *x == b':').unwrap_or(line.len());
+    out.write_all(&line[..end])?;
+    show(out, asked(file, from(line, end + 2)))
 }
 
 fn main(rt: HostRuntime) -> io::Result<()> {
@@ -92,11 +96,13 @@ fn main(rt: HostRuntime) -> io::Result<()> {
     let mut out = io::writer(&rt);
     let mut buffer = [0u8; MOST_BYTES];
     let n = read_full(&mut rt.reader(), &mut buffer);
-    let Ok(text) = str::from_utf8(&buffer[..n]) else {
-        return eprintln!(rt; "question-cases: the cases are not text");
-    };
-    for line in text.lines() {
-        case(&mut out, file, line)?;
+    let text = &buffer[..n];
+    let mut start = 0;
+    for i in 0..n {
+        if text[i] == b'\n' {
+            case(&mut out, file, &text[start..i])?;
+            start = i + 1;
+        }
     }
     Ok(())
 }
