@@ -91,7 +91,8 @@ fn narrow(list: &[u32])
     ensures { Narrow list.now }
 {}
 
-// The greatest value, and 1, that the utility diagram named u has within the set named a; 0 for the empty set.
+// The greatest value, and 1, that the utility diagram named u has within the set named a; 0 for the empty set. It is a number and no Option, since
+// the memo's slots hold numbers, and the larger of two is then their max.
 pub fn most(set: NodeView, utility: NodeView, memo: &mut [u32], stamp: u32, a: u32, u: u32) -> u32
     requires store { Store (view_table set) × Store (view_table utility) }
     requires a_bound { (a < set.count + 2) × (u < utility.count + 2) }
