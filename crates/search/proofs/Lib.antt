@@ -2,7 +2,6 @@
 mod Inside
 mod Late
 mod Handed
-mod Planned
 mod Outcome
 mod Answers
 pub mod Demands

@@ -3,3 +3,4 @@ pub mod Leaves
 pub mod Permitted
 pub mod PlanAnswer
 pub mod Meaning
+pub mod Structs
