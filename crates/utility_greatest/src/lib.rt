@@ -42,15 +42,13 @@ impl Walk<'_> {
     }
 
     // Down the low sides, until a number is known.
-    fn descend(&self, memo: &[u32], stack: &mut Stack, a: u32, u: u32) -> u32
+    fn descend(&self, memo: &[u32], stack: &mut Stack, mut x: u32, mut y: u32) -> u32
         requires ready { Ready self.now memo.now }
-        requires sinks { Sinking self.now (waiting stack.old) a u }
+        requires sinks { Sinking self.now (waiting stack.old) x y }
         requires size { length stack.old.frames ≡ 64 }
-        ensures reaches { Reaches self.now (waiting stack.old) (waiting stack.new) a u result }
+        ensures reaches { Reaches self.now (waiting stack.old) (waiting stack.new) x y result }
         ensures size { length stack.new.frames ≡ 64 }
     {
-        let mut x = a;
-        let mut y = u;
         loop {
             match self.look(memo, x, y) {
                 Look::Known(number) => return number,
@@ -64,15 +62,14 @@ impl Walk<'_> {
     }
 
     // Up, as long as it is the high side's number.
-    fn ascend(&self, memo: &mut [u32], stack: &mut Stack, reached: u32) -> Turn
+    fn ascend(&self, memo: &mut [u32], stack: &mut Stack, mut number: u32) -> Turn
         requires ready { Ready self.now memo.old }
-        requires rises { Rising self.now (waiting stack.old) reached }
+        requires rises { Rising self.now (waiting stack.old) number }
         requires size { length stack.old.frames ≡ 64 }
         ensures ready { Ready self.now memo.new }
-        ensures turned { Turned self.now (waiting stack.old) (waiting stack.new) reached result }
+        ensures turned { Turned self.now (waiting stack.old) (waiting stack.new) number result }
         ensures size { length stack.new.frames ≡ 64 }
     {
-        let mut number = reached;
         while let Some(frame) = stack.last() {
             let Some(low) = frame.low() else {
                 stack.turn(number);
