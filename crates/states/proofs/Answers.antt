@@ -5,12 +5,16 @@ use mathlib.Core.Bool.{true, false}
 use mathlib.Core.List.{List}
 use lib.ListN.{length}
 use Rattle.planning.specs.Connectives.{pick}
-use Rattle.task.specs.Check.{check_of, accepted}
+use Rattle.task.specs.Check.{accepted}
 use Rattle.task.specs.Decode.{task_of}
 use Rattle.lent_lists.specs.Lists.{lists_wrong}
 use Rattle.lent_lists.proofs.Passing.{equal_lengths}
-use Rattle.states_answer.specs.declared.Enumerated.{Enumerated}
-use Rattle.states_answer.specs.declared.Enumerated.TheVariants.{Refused}
+use Rattle.std.proofs.Common.{Result, Err}
+use Rattle.refusal.specs.declared.Refusal.{Refusal}
+use Rattle.refusal.specs.declared.Refusal.TheVariants.{ListLengths}
+use Rattle.refusal.specs.Refusals.{number}
+use Rattle.task_check.specs.Answers.{refusal_of}
+use Rattle.states_answer.specs.declared.Summary.{Summary}
 use Rattle.states_answer.specs.Lent.{Lent}
 use Rattle.states_answer.specs.States.{listed_of, states_of}
 use Rattle.states.specs.Leaves.{Kept, Gives, Enumerates}
@@ -21,17 +25,17 @@ kept : (n : ℕ) (l : Lent) → Kept n l l
 kept n l = record { everything = λ _. refl; plan = refl }
 
 module _ (f : List ℕ) (l : Lent) where
-  pub refused_file : (n p : ℕ) → (n, p) ≡ check_of f → accepted f ≡ false → Enumerates f l l (Refused n p)
+  pub refused_file : (x : Refusal) → (x ≡ refusal_of f) × (accepted f ≡ false) → Enumerates f l l (Err x)
   unfolding states_of pick
-  refused_file n p e a = record { answers = rw (a, ← e); leaves = kept n l }
+  refused_file x told = record { answers = rw (told.1, told.0); leaves = kept (number x) l }
 
   module _ (a : accepted f ≡ true) where
-    pub refused_12 : lists_wrong (length l.states) (length l.costs) (length l.steps) ≡ true → Enumerates f l l (Refused 12 0)
+    pub refused_12 : lists_wrong (length l.states) (length l.costs) (length l.steps) ≡ true → Enumerates f l l (Err ListLengths)
     unfolding states_of pick
     refused_12 e = record { answers = rw (a, e); leaves = kept 12 l }
 
     module _ (right : lists_wrong (length l.states) (length l.costs) (length l.steps) ≡ false) where
-      pub enumerated : (after : Lent) (r : Enumerated) → Gives (task_of f) (listed_of (task_of f) l) l after r → Enumerates f l after r
+      pub enumerated : (after : Lent) (r : Result Summary Refusal) → Gives (task_of f) (listed_of (task_of f) l) l after r → Enumerates f l after r
       unfolding states_of pick
       enumerated after r g = record { answers = rw (a, right) g.answers; leaves = g.leaves }
 
