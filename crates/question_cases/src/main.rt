@@ -34,12 +34,16 @@ fn from(line: &[u8], at: usize) -> &[u8] {
 }
 
 // The digit at a place, as a number.
-fn digit(line: &[u8], at: usize) -> u8 {
+fn digit(line: &[u8], at: usize) -> u8
+    ensures { result ≤ 9 }
+{
     (byte(line, at).saturating_sub(48) % 10) as u8
 }
 
 // The digits at the front, as many as there is room for, put at the front of the room; and what stands behind them and one byte more.
-fn digits<'a, 'b, T: From<u8> + Drop>(room: &'a mut [T], line: &'b [u8]) -> (&'a [T], &'b [u8]) {
+fn digits<'a, 'b, T: From<u8> + Drop>(room: &'a mut [T], line: &'b [u8]) -> (&'a [T], &'b [u8])
+    ensures { length result.0.now ≤ length room.old }
+{
     let end = line.iter().position(|x| !x.is_ascii_digit());
     let count = end.unwrap_or(line.len()).min(room.len());
     for (place, digit) in room.iter_mut().zip(line) {

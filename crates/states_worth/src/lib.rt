@@ -9,6 +9,7 @@ ghost use Rattle.states_moves.specs.Words.{meets};
 ghost use Rattle.states_worth.specs.Worth.{worth_of, Weighed, IsTerm, TermsTabled, Greatest};
 
 use states_moves::meets;
+use task::header::terms;
 use task_states::cubes::Cube;
 use task_states::model::{term_cube, term_weight};
 
@@ -53,11 +54,11 @@ fn term(file: &[u8], j: usize) -> Weighted
 
 // Fills the table with the terms of an accepted file, of which it has room for all.
 pub fn tabulate(file: &[u8], table: &mut [Weighted])
-    requires { (accepted file.now ≡ true) × (length table.old ≡ terms file.now) }
+    requires { (accepted file.now ≡ true) × (terms file.now ≤ length table.old) }
     ensures { TermsTabled file.now table.new }
 {
-    for (j, row) in table.iter_mut().enumerate() {
-        *row = term(file, j);
+    for j in 0..terms(file) {
+        table[j] = term(file, j);
     }
 }
 
