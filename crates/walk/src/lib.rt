@@ -3,8 +3,9 @@
 
 ghost use Rattle.std.specs.Prelude.{◌≡◌, ◌≤◌, ◌<◌, length, IfOk, OnOk};
 ghost use Rattle.planning.specs.Model.{apply, operator_at};
+ghost use Rattle.task.specs.Bytes.{Reads};
 ghost use Rattle.task.specs.Limits.{most_variables};
-ghost use Rattle.task.specs.Format.{variables};
+ghost use Rattle.task.specs.Format.{bound, operators, variables};
 ghost use Rattle.task.specs.Decode.{task_of};
 ghost use Rattle.walk.specs.Walk.{step_of, walk_from, walk_of, steps};
 
@@ -25,14 +26,23 @@ pub struct Reached {
     pub utility: usize,
 }
 
-// Applies operator o in the state, after steps of this cost, and gives the cost with it.
-fn step(file: &[u8], state: &mut [u8], spent: usize, o: usize) -> Result<usize, Fault>
-    requires { (spent < 65536) × (o < 65536) }
+// Applies operator o in the state, after steps of this cost, and gives the cost with it. The number of operators and the bound are
+// handed in, since a long walk would read them anew at each step.
+fn step(
+    file: &[u8],
+    count: usize,
+    limit: usize,
+    state: &mut [u8],
+    spent: usize,
+    o: usize,
+) -> Result<usize, Fault>
+    requires small { (spent < 65536) × (o < 65536) }
+    requires header { (count ≡ operators file.now) × Reads limit (bound file.now) 65536 }
     ensures answer { result ≡ step_of (task_of file.now) state.old spent o }
     ensures small { IfOk result (λ cost. cost < 65536) }
     ensures applied { OnOk result (state.new ≡ apply state.old (operator_at (task_of file.now).operators o).eff) }
 {
-    if operators(file) <= o {
+    if count <= o {
         return Err(Fault::Operator);
     }
     let record = operator_record(file, o);
@@ -40,7 +50,7 @@ fn step(file: &[u8], state: &mut [u8], spent: usize, o: usize) -> Result<usize, 
         return Err(Fault::Precondition);
     }
     let cost = spent + cost(record);
-    if bound(file) < cost {
+    if limit < cost {
         return Err(Fault::Bound);
     }
     apply(state, effects(record), effect_count(record));
@@ -51,9 +61,11 @@ fn step(file: &[u8], state: &mut [u8], spent: usize, o: usize) -> Result<usize, 
 fn follow(file: &[u8], plan: &[u8], state: &mut [u8]) -> Result<Reached, Refusal>
     ensures { result ≡ walk_from (task_of file.now) 0 state.old 0 (steps plan.now) }
 {
+    let count = operators(file);
+    let limit = bound(file);
     let mut cost = 0;
     for at in 0..plan.len() / 2 {
-        match step(file, state, cost, le16(plan, 2 * at)) {
+        match step(file, count, limit, state, cost, le16(plan, 2 * at)) {
             Ok(more) => cost = more,
             Err(fault) => return Err(Refusal::Step { step: at, fault }),
         }

@@ -1,12 +1,12 @@
 -- Laws of bytes put over a list's, each in the direction in which a need asks it.
-use Prim.Native.Nat.{ℕ, ◌+◌, ◌-◌, ◌≤◌}
-use mathlib.Core.Path.{◌≡◌, sym, ap, ◌∙◌}
+use Prim.Native.Nat.{ℕ, ◌+◌, ◌≤◌, ◌<◌}
+use mathlib.Core.Path.{◌≡◌, refl, sym, ap, ◌∙◌}
 use mathlib.Core.List.{List, [], ◌++◌, append_assoc}
 use native.Mathlib.Omega.{arith}
-use native.Mathlib.Nat.{zero-add, add_assoc}
-use lib.ListN.{length, take, drop, length-append}
-use lib.Seq.{length-take-le, take-length, take_at, drop_at, drop-drop, paste, paste-zero, length-paste}
-use borrow.Rule.Slice.PartMut.{put_mid}
+use native.Mathlib.Nat.{zero-add, add_assoc, le_antisymm}
+use native.Mathlib.Numerals.{add-one}
+use lib.ListN.{length, get_or, take, drop, set, length-append, length-set}
+use lib.Seq.{length-take-le, take-length, take_at, drop_at, drop-drop, paste, paste-zero, paste-suc, length-paste}
 use Rattle.writer.specs.Write.{overlay}
 
 module _ (out : List ℕ) (at : ℕ) where
@@ -44,9 +44,25 @@ pub overlay_front : (out bytes : List ℕ) → overlay out 0 bytes ≡ bytes ++ 
 unfolding overlay
 overlay_front out bytes = rw (zero-add (length bytes))
 
--- a part of the list that is written anew
-pub overlay_put : (out bytes : List ℕ) (at : ℕ) → put_mid at ((at + length bytes) - at) out bytes ≡ overlay out at bytes
-unfolding overlay
-overlay_put out bytes at =
-    let same : (at + length bytes) - at ≡ length bytes = omega arith in
-    rw (same, drop-drop (length bytes) at out) (sym (append_assoc (take at out) bytes (drop (at + length bytes) out)))
+-- ---- a copy in a loop: the first i bytes are there
+module _ (out₀ : List ℕ) (at : ℕ) (bytes : List ℕ) where
+  pub record Copied (out : List ℕ) (i : ℕ) : Type 0 where
+    pub few : i ≤ length bytes
+    pub long : length out ≡ length out₀
+    pub is : out ≡ paste out₀ at bytes i
+
+  pub copied_none : Copied out₀ 0
+  copied_none = record { few = omega arith; long = refl; is = paste-zero out₀ at bytes }
+
+  pub copied_more : (out : List ℕ) (i : ℕ) → at + length bytes ≤ length out₀ → i < length bytes → Copied out i → Copied (set out (at + i) (get_or bytes i 0)) (i + 1)
+  copied_more out i room lt c =
+      record {
+        few = omega arith;
+        long = length-set out (at + i) (get_or bytes i 0) ∙ c.long;
+        is = rw (c.is, add-one) (paste-suc out₀ at bytes i 0 (omega arith) lt);
+      }
+
+  pub copied_done : (out : List ℕ) (i : ℕ) → length bytes ≤ i → Copied out i → out ≡ overlay out₀ at bytes
+  copied_done out i ge c =
+      let e : i ≡ length bytes = le_antisymm c.few ge in
+      c.is ∙ rw e (sym (overlay_paste out₀ at bytes))

@@ -45,12 +45,14 @@ fn begin(file: &[u8], k: usize) -> usize
     at
 }
 
-// Writes bytes from a place on.
+// Writes bytes from a place on. One by one: a copy of slices calls memmove, which the library for C would then need from outside.
 fn copy(out: &mut [u8], at: usize, bytes: &[u8])
     requires { at + length bytes.now ≤ length out.old }
     ensures { out.new ≡ overlay out.old at bytes.now }
 {
-    out[at..at + bytes.len()].copy_from_slice(bytes);
+    for (i, byte) in bytes.iter().enumerate() {
+        out[at + i] = *byte;
+    }
 }
 
 // Writes a number of two bytes, low byte first.

@@ -5,29 +5,29 @@ use Rattle.std.proofs.lemmas.Bool.{not_from_false, not_from_true}
 use Rattle.walk.proofs.Steps.{step_17, step_18, step_19, step_on, applied, pre_is, cost_is, state_is}
 use Rattle.walk.proofs.step.Goals as goal
 
-pub returns-then-operators-o-clause-answer : goal.returns-then-operators-o-clause-answer
-returns-then-operators-o-clause-answer c =
-    step_17 _ _ _ _ (omega (arith, c.operators.ensures.is))
+pub returns-then-count-o-clause-answer : goal.returns-then-count-o-clause-answer
+returns-then-count-o-clause-answer c =
+    step_17 _ _ _ _ (omega (arith, c.requires.header.0))
 
 pub returns-then-not-holds-clause-answer : goal.returns-then-not-holds-clause-answer
 returns-then-not-holds-clause-answer c =
-    step_18 _ _ _ _ (omega (arith, c.operators.ensures.is)) _ (pre_is _ _ _ c.operator_record-record.ensures _ _ c.preconditions.ensures c.precondition_count.ensures.is)
+    step_18 _ _ _ _ (omega (arith, c.requires.header.0)) _ (pre_is _ _ _ c.operator_record-record.ensures _ _ c.preconditions.ensures c.precondition_count.ensures.is)
     (sym (wrong _ _ c.holds.ensures (not_from_false _ c.if-not-holds.true)))
 
-pub returns-then-bound-cost-clause-answer : goal.returns-then-bound-cost-clause-answer
-returns-then-bound-cost-clause-answer c =
-    step_19 _ _ _ _ (omega (arith, c.operators.ensures.is)) _ (pre_is _ _ _ c.operator_record-record.ensures _ _ c.preconditions.ensures c.precondition_count.ensures.is)
+pub returns-then-limit-cost-clause-answer : goal.returns-then-limit-cost-clause-answer
+returns-then-limit-cost-clause-answer c =
+    step_19 _ _ _ _ (omega (arith, c.requires.header.0)) _ (pre_is _ _ _ c.operator_record-record.ensures _ _ c.preconditions.ensures c.precondition_count.ensures.is)
     (sym (right _ _ c.holds.ensures (not_from_true _ c.if-not-holds.false)))
     _ (cost_is _ _ _ c.operator_record-record.ensures _ _ c.cost.ensures.is)
-    (omega (arith, c.bound.ensures.is))
+    (omega (arith, c.requires.header.1.is))
 
 pub returns-clause-answer : goal.returns-clause-answer
 returns-clause-answer c =
-    step_on _ _ _ _ (omega (arith, c.operators.ensures.is)) _ (pre_is _ _ _ c.operator_record-record.ensures _ _ c.preconditions.ensures c.precondition_count.ensures.is)
+    step_on _ _ _ _ (omega (arith, c.requires.header.0)) _ (pre_is _ _ _ c.operator_record-record.ensures _ _ c.preconditions.ensures c.precondition_count.ensures.is)
     (sym (right _ _ c.holds.ensures (not_from_true _ c.if-not-holds.false)))
     _ (cost_is _ _ _ c.operator_record-record.ensures _ _ c.cost.ensures.is)
-    (omega (arith, c.bound.ensures.is))
+    (omega (arith, c.requires.header.1.is))
 
 pub returns-clause-applied : goal.returns-clause-applied
 returns-clause-applied c =
-    applied _ _ 0 _ (omega (arith, c.operators.ensures.is)) _ (state_is _ _ _ c.operator_record-record.ensures _ _ _ _ c.apply.ensures c.effects.ensures c.effect_count.ensures.is)
+    applied _ _ 0 _ (omega (arith, c.requires.header.0)) _ (state_is _ _ _ c.operator_record-record.ensures _ _ _ _ c.apply.ensures c.effects.ensures c.effect_count.ensures.is)

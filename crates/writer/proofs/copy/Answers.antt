@@ -1,6 +1,15 @@
-use Rattle.writer.proofs.Overlays.{overlay_put}
+use native.Mathlib.Omega.{arith}
+use Rattle.writer.proofs.Overlays.{copied_none, copied_more, copied_done}
 use Rattle.writer.proofs.copy.Goals as goal
+
+pub loop-i-init : goal.loop-i-init
+loop-i-init c =
+    copied_none _ _ _
+
+pub loop-i-preserved : goal.loop-i-preserved
+loop-i-preserved c =
+    copied_more _ _ _ _ _ (omega arith) c.loop-i-test.true c.loop-i.invariant
 
 pub returns : goal.returns
 returns c =
-    rw c.copy_from_slice.ensures.after (overlay_put _ _ _)
+    copied_done _ _ _ _ _ c.loop-i-test.false c.loop-i.invariant
