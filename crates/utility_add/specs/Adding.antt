@@ -27,7 +27,7 @@ adding care value w stamp =
     record {
       result = λ s x k. add_from care value w k (tree s x);
       Fit = Addable care w;
-      Own = λ s a b p. Unit {0};
+      Own = λ s f. Unit {0};
       rank = λ x k. x + (65 - k);
       Right = Right care value w stamp;
     }

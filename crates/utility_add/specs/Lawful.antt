@@ -9,7 +9,7 @@ use Rattle.diagrams.proofs.Canonical.{canon_weaken}
 use Rattle.diagrams.proofs.Steps.{done_tree, done_count}
 use Rattle.diagrams.proofs.Memos.{stamped_weaken}
 use Rattle.cube_bits.specs.Following.{Following}
-use Rattle.diagram_loops.specs.Loops.{Lawful}
+use Rattle.diagram_loops.specs.Loops.{Lawful, Steady}
 use Rattle.utility.proofs.Adds.{canon_add}
 use Rattle.utility_add.specs.Adds.{Added}
 use Rattle.utility_add.specs.Adding.{adding, Right}
@@ -52,9 +52,15 @@ add_lawful care value w stamp =
       grows = λ s s' up old n x k f.
           let e = old x f.below in
           (rw e, record { below = omega (arith, f.below); level = f.level; from = f.from; order = rw e f.order; room = rw e f.room; next = f.next });
-      owns = λ s s' up old a b p q. q;
+      owns = λ s s' up old f q. q;
       canon = λ s n x k f.
           canon_weaken n f.level _ f.from
           (⊎_elim (λ (e : k ≡ 65). outside_canon care value w f.level k (tree s x) f.order e) (λ (y : Following care f.level k). from_canon care value w f.level k (tree s x) f.order y) f.next);
+    }
+
+pub add_steady : (care value w stamp : ℕ) → Steady (adding care value w stamp)
+add_steady care value w stamp =
+    record {
       stays = λ s s' memo b l h r lt st d q. right_grow care value w stamp s s' memo st r _ d q;
+      turns = λ s f r q. q;
     }

@@ -17,7 +17,7 @@ selecting x v stamp =
     record {
       result = λ s a d. select_t v (tree s a) (tree x d);
       Fit = λ s n a d. Names s x n a d;
-      Own = λ s a d p. Unit {0};
+      Own = λ s w. Unit {0};
       rank = λ a d. a + d;
       Right = Right x v stamp;
     }
