@@ -2,7 +2,7 @@ use Prim.Native.Nat.{ℕ, ◌≤◌, ◌<◌}
 use mathlib.Core.Path.{◌≡◌}
 use lib.ListN.{length, get_or}
 use Rattle.states_table.specs.Chains.{Reach}
-use Rattle.states_table.proofs.Table.seek.Given as goal
+use Rattle.states_table.proofs.TableView.seek.Given as goal
 
 abbrev pub invariant-loop-link : goal.invariant-loop-link
 invariant-loop-link l =
